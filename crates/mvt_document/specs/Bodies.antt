@@ -1,4 +1,5 @@
 -- Which plain body a body of the program stands for.
+use Rattle.std.specs.Prelude.{◌≤◌, length}
 use Rattle.mvt_document.specs.Plain as plain
 use Rattle.mvt_document.specs.declared.varint.Varint.{Varint}
 use Rattle.mvt_document.specs.declared.body.Body.{Body}
@@ -25,3 +26,9 @@ body_seen (lent.Eight bytes) = plain.Eight bytes
 body_seen (lent.Four bytes) = plain.Four bytes
 body_seen (lent.Bytes width bytes) = plain.Delimited width bytes.now
 body_seen (lent.Group bytes) = plain.Group bytes.now
+
+-- the body is a number, or has at most 23 bytes
+abbrev pub IsFew : plain.Body → Type 0
+IsFew (plain.Delimited width bytes) = length bytes ≤ 23
+IsFew (plain.Group bytes) = length bytes ≤ 23
+IsFew body = Unit {0}

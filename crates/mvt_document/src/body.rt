@@ -27,7 +27,8 @@ pub enum BodyRef<'a> {
     Eight([u8; 8]),
     /// I32
     Four([u8; 4]),
-    /// LEN: the bytes, and the width in which their length is spelled.
+    /// LEN: the bytes, and the width in which their length is spelled, or the least one if the body is that of a
+    /// field.
     Bytes { width: u8, bytes: &'a [u8] },
     /// SGROUP: all bytes up to the end of the group, including its end tag.
     Group(&'a [u8]),

@@ -1,9 +1,9 @@
 //! A feature as it is held: its fields, with its id beside them.
 
-ghost use Rattle.std.specs.Prelude.{◌≡◌, IfSome};
+ghost use Rattle.std.specs.Prelude.{◌≡◌};
 ghost use Rattle.mvt_document.specs.Shape.{IsWidth};
 ghost use Rattle.mvt_document.specs.Hashes.{hash_of};
-ghost use Rattle.mvt_document.specs.StoredIds.{known_id};
+ghost use Rattle.mvt_document.specs.StoredIds.{known_id, number_kept, stored_number};
 
 use crate::field::Field;
 use crate::items::Items;
@@ -42,8 +42,8 @@ struct StoredId {
     low: u32,
 }
 
-/// A feature of a layer, in four words. Its id is kept, so that a feature is found by its id without a look at
-/// the fields of any. Contracts see the parts that it was made of.
+/// A feature of a layer, in four words. Its id is kept, unless it takes more than five bytes, so that a feature is
+/// found by its id without a look at the fields of any. Contracts see the parts that it was made of.
 #[derive(Drop)]
 pub struct Feature {
     tag: MessageTag,
@@ -57,16 +57,16 @@ pub struct Feature {
 
 impl Model for Feature {
     ghost use Rattle.mvt_document.specs.declared.feature.FeatureParts.{FeatureParts as TheParts};
-    ghost use Rattle.std.specs.Prelude.{◌≡◌, map, IfSome};
+    ghost use Rattle.std.specs.Prelude.{◌≡◌, map};
     ghost use Rattle.mvt_document.specs.FieldStands.{field_of};
-    ghost use Rattle.mvt_document.specs.StoredIds.{known_id};
+    ghost use Rattle.mvt_document.specs.StoredIds.{number_kept, stored_number};
     ghost use Rattle.mvt_document.specs.Values.{last_value};
 
     ghost Value = { TheParts };
 
     ghost view = { λ f. record { tag = f.tag; width = f.width; fields = f.fields; is_feature = f.is_feature; is_width = f.is_width } };
 
-    ghost invariant = { λ f. IfSome (known_id (record { high = f.id_high; low = f.id_low })) (λ id. id ≡ last_value 1 (map field_of f.fields.items)) };
+    ghost invariant = { λ f. stored_number (record { high = f.id_high; low = f.id_low }) ≡ number_kept (last_value 1 (map field_of f.fields.items)) };
 }
 
 impl fmt::Debug for Feature {
@@ -81,7 +81,7 @@ impl fmt::Debug for Feature {
 
 impl StoredId {
     fn new(id: Option<u64>) -> StoredId
-        ensures { IfSome (known_id result) (λ known. known ≡ id) }
+        ensures { stored_number result ≡ number_kept id }
     {
         let number = match id {
             Some(id) if id < NO_ID => id,

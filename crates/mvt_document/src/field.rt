@@ -1,8 +1,8 @@
 //! A field as it is held: its tag and its body share four words, which hold a body of few bytes
 //! themselves.
 
-ghost use Rattle.std.specs.Prelude.{◌≡◌, ◌/◌, IfOk};
-ghost use Rattle.mvt_document.specs.Bodies.{body_of, body_seen, number_of};
+ghost use Rattle.std.specs.Prelude.{◌≡◌, ◌/◌, IfOk, IsOk};
+ghost use Rattle.mvt_document.specs.Bodies.{IsFew, body_of, body_seen, number_of};
 ghost use Rattle.mvt_document.specs.BodyShape.{stored_width, EndsGroup};
 ghost use Rattle.mvt_document.specs.FieldForms.{body_in, tag_in, tag_width_in};
 ghost use Rattle.mvt_document.specs.Groups.{wire_type};
@@ -141,11 +141,12 @@ impl Field {
         Field { form }
     }
 
-    /// The field of a tag and a body, with bytes of its own.
+    /// The field of a tag and a body, with bytes of its own. Few bytes take no memory.
     #[inline(always)]
     pub fn copied(alloc: Global, tag: Tag, body: BodyRef<'_>) -> Result<Field, AllocError>
         requires { IsField (record { tag = number_of tag; body = body_seen body }) }
-        ensures { IfOk result (λ field. field_of field ≡ record { tag = number_of tag; body = body_seen body.entry }) }
+        ensures field { IfOk result (λ field. field_of field ≡ record { tag = number_of tag; body = body_seen body.entry }) }
+        ensures few { IsFew (body_seen body.entry) → IsOk result }
     {
         let (tag, tag_width) = (tag.to_u32(), tag.width());
         let form = match body {

@@ -29,8 +29,8 @@ struct Beside {
     hashes: Vec<u32>,
 }
 
-/// A list of many items has runs and hashes too. One of few items has none, since going through it is just as
-/// fast, and no memory is asked for.
+/// A list of many items has runs and hashes too. One that never had many has none, since going through it is just
+/// as fast, and no memory is asked for.
 #[derive(Drop)]
 enum Form {
     Size(StoredSize),

@@ -1,11 +1,17 @@
 //! Laws of documents and their bytes. Each is the contract of a function that does nothing.
 
 ghost use Rattle.std.specs.Prelude.{◌≡◌, ◌≤◌, length};
-ghost use Rattle.mvt_document.specs.declared.TheConstants.{MAX_FILE};
+ghost use Rattle.mvt_document.specs.declared.TheConstants.{MAX_FILE, MAX_GROUPS};
 ghost use Rattle.mvt_document.specs.Plain.{Document as PlainDocument};
 ghost use Rattle.mvt_document.specs.Wire.{bytes_of};
 ghost use Rattle.mvt_document.specs.Opens.{IsDocument, IsSettled, OpensAs};
 ghost use Rattle.mvt_document.specs.Settle.{settle, HasShortLengths};
+
+/// A tile has at most 67,108,864 bytes (`file`), and at most 100 groups are open at one place (`groups`).
+pub fn limits()
+    ensures file { MAX_FILE ≡ 67108864 }
+    ensures groups { MAX_GROUPS ≡ 100 }
+{}
 
 /// Settled documents with the same bytes are equal, including the groups in them, so a file opens
 /// as at most one document.

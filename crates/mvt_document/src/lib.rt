@@ -53,7 +53,8 @@
 //!   one item is traded for another, and a vector is taken out if there is room for more than one
 //!   (`Put::trade`, `take_vec`); a width is at least 1, and the room has that many bytes (`put_number`); a number
 //!   that becomes a tag is below 2^32 (`Tag::new`, `Tag::minimal`), or below 2^8 (`MessageTag::new`); a tag and
-//!   a body that are copied are those of a field (`Field::copied`).
+//!   a body that are copied are those of a field (`Field::copied`); the tag of a LEN field that is made is one of
+//!   that wire type, and its width is 1 to 10 (`Field::delimited`).
 #![tactic(auto)]
 
 mod body;

@@ -1,4 +1,4 @@
-//! How many bytes a value takes, in a trait that each type of a document has.
+//! How many bytes a value takes, in a trait of the values that a tile is made of.
 
 ghost use Rattle.std.specs.Prelude.{ℕ, ◌+◌, ◌≤◌, List, [], ◌++◌, length, max};
 ghost use Rattle.std.specs.Option.{SomeIff};

@@ -221,9 +221,11 @@ impl<T: Item> Message<T> {
         keep(&mut self.kept, &self.inner, known, runs);
     }
 
-    /// Adds an item at the end. An `Err` changes nothing.
+    /// Adds an item at the end. An `Err` changes nothing; it occurs only when the list has to grow.
     pub fn push(&mut self, item: T) -> Result<(), AllocFailed<T>>
         ensures items { self.new.items ≡ (if is_ok result then self.old.items ++ item ∷ [] else self.old.items) }
+        ensures room { length self.old.items + self.old.room ≤ length self.new.items + self.new.room }
+        ensures succeeds { 0 < self.old.room → IsOk result }
     {
         let size = self.size_pushed(&item);
         let runs = self.runs_pushed(&item);

@@ -1,4 +1,4 @@
-//! The items that change places with a part of a list. A single one takes no memory of its own.
+//! The items that change places with a part of a list. A single one usually takes no memory of its own.
 
 ghost use Rattle.std.specs.Prelude.{◌≡◌, ◌≤◌, ◌<◌, ◌∷◌, [], length, option_to_list, vec_len, vec_capacity};
 ghost use Rattle.mvt_document.specs.Splicing.{part, splice};
@@ -109,7 +109,8 @@ impl<T: Drop> Put<T> {
 
     /// This item alone.
     pub fn of_one(alloc: Global, item: T) -> Self
-        ensures { result.items ≡ item ∷ [] }
+        ensures items { result.items ≡ item ∷ [] }
+        ensures room { result.room ≡ 0 }
     {
         Put {
             alloc,
@@ -123,6 +124,7 @@ impl<T: Drop> Put<T> {
         ensures items { result.items ≡ self.old.items }
         ensures room { vec_capacity result ≡ length self.old.items + self.old.room }
         ensures left { self.new.items ≡ [] }
+        ensures left_room { self.new.room ≡ 1 }
     {
         match mem::replace(&mut self.form, Form::Empty) {
             Form::Many(items) => items,

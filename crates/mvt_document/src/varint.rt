@@ -1,6 +1,6 @@
 //! Numbers in base 128, each with the width of its spelling: read and written.
 
-ghost use Rattle.std.specs.Prelude.{◌≡◌, ℕ, ◌*◌, ◌^◌, ◌<◌, ◌≤◌, ◌++◌, length, take, IfSome, IfNone, OnOk, nat_lt, position};
+ghost use Rattle.std.specs.Prelude.{◌≡◌, ℕ, ◌+◌, ◌*◌, ◌^◌, ◌<◌, ◌≤◌, ◌++◌, length, take, IfSome, IfNone, IsOk, OnOk, nat_lt, position, vec_len, vec_capacity};
 ghost use Rattle.mvt_document.specs.Shape.{IsSpelling};
 ghost use Rattle.mvt_document.specs.Wire.{spell, spelling, minimal_width};
 ghost use Rattle.mvt_document.specs.Groups.{IsNumber};
@@ -37,9 +37,12 @@ impl Varint {
         }
     }
 
-    /// Adds the number at the end, in as many bytes as its width.
+    /// Adds the number at the end, in as many bytes as its width. An `Err` occurs only when the vector has to
+    /// grow, and may leave the first of these bytes at the end.
     pub fn put(self, bytes: &mut Vec<u8>) -> Result<(), AllocError>
-        ensures { OnOk result (bytes.new.items ≡ bytes.old.items ++ spell self.value self.width) }
+        ensures bytes { OnOk result (bytes.new.items ≡ bytes.old.items ++ spell self.value self.width) }
+        ensures room { vec_capacity bytes.old ≤ vec_capacity bytes.new }
+        ensures succeeds { vec_len bytes.old + self.width ≤ vec_capacity bytes.old → IsOk result }
     {
         if self.width == 1 {
             bytes.push(self.value as u8)?;
@@ -117,7 +120,8 @@ fn last_byte(bytes: &[u8]) -> Option<usize>
     bytes.iter().take(10).position(|byte| *byte < 128)
 }
 
-/// Writes the number at the end of the room, in `width` bytes.
+/// Writes the number at the end of the room, in `width` bytes. If it does not fit into that many, only its last
+/// seven bits for each byte are written.
 pub fn put_number(value: u64, width: u8, room: &mut [u8]) -> usize
     requires some { 1 ≤ width }
     requires fits { width ≤ length room.old }

@@ -31,7 +31,7 @@ pub one_step_within_limit-requires : goal.one_step_within_limit-requires
 one_step_within_limit-requires c =
     let found = c.in_ok-found.ensures.found in
     let place = rw (some_found c.place_of_new.result c.ok_or.result BadPlace c.in_ok-place.place c.ok_or.ensures.value c.in_ok-place.was, c.as_slice.ensures) at c.place_of_new.ensures.place in
-    rw (c.of_one.ensures, c.in_ok-feature.ensures.feature) (
+    rw (c.of_one.ensures.items, c.in_ok-feature.ensures.feature) (
     insertion_fits (layer_choice_of c.args.choice.now) c.args.index c.in_ok-found.found.ordinal c.in_ok-found.found.position c.args.geometry.now (document_of c.args.document.now) (layer_of c.in_ok-found.found.layer.now) found.selects found.placed found.there
     c.in_ok-place.place place
     )
@@ -45,8 +45,8 @@ returns c =
     let layer = layer_of c.in_ok-found.found.layer.now in
     let limited = c.one_step_within_limit.ensures in
     prepared_within_limit (InsertFeature choice c.args.index c.args.geometry.now) document (LayerStep c.in_ok-found.found.position c.in_ok-place.place 0 (new_feature c.args.geometry.now ∷ [])) c.one_step_within_limit.result
-    (rw (c.of_one.ensures, c.in_ok-feature.ensures.feature) at limited.made)
-    (rw (c.of_one.ensures, c.in_ok-feature.ensures.feature) at limited.within)
-    (rw (c.of_one.ensures, c.in_ok-feature.ensures.feature) at limited.refused)
+    (rw (c.of_one.ensures.items, c.in_ok-feature.ensures.feature) at limited.made)
+    (rw (c.of_one.ensures.items, c.in_ok-feature.ensures.feature) at limited.within)
+    (rw (c.of_one.ensures.items, c.in_ok-feature.ensures.feature) at limited.refused)
     (insertion_prepared choice c.args.index c.in_ok-found.found.ordinal c.in_ok-found.found.position c.args.geometry.now document layer found.selects found.placed found.there c.in_ok-place.place place c.in_ok-feature.ensures.in_range)
     (insertion_too_large choice c.args.index c.in_ok-found.found.ordinal c.in_ok-found.found.position c.args.geometry.now document layer found.selects found.placed found.there c.in_ok-place.place place c.in_ok-feature.ensures.in_range)

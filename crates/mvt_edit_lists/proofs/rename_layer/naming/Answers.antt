@@ -24,5 +24,5 @@ returns c =
       put = map layer_item_of c.of_one.result.items;
       parts = refl;
       replaces =
-          run_puts layer_item_of is_name (with_text name) (PlainInLayer (new_content 10 name)) refl (name_kept name) layer_item_bytes IsLayerItem c.as_slice-items.result.now c.last_name.result c.of-spot.result.index c.of-spot.result.take c.get.result c.in_ok-item.item c.of_one.result.items last c.of-spot.ensures.index c.of-spot.ensures.take c.get.ensures.lookup c.in_ok-item.ensures.item c.in_ok-item.ensures.valid c.of_one.ensures;
+          run_puts layer_item_of is_name (with_text name) (PlainInLayer (new_content 10 name)) refl (name_kept name) layer_item_bytes IsLayerItem c.as_slice-items.result.now c.last_name.result c.of-spot.result.index c.of-spot.result.take c.get.result c.in_ok-item.item c.of_one.result.items last c.of-spot.ensures.index c.of-spot.ensures.take c.get.ensures.lookup c.in_ok-item.ensures.item c.in_ok-item.ensures.valid c.of_one.ensures.items;
     })
