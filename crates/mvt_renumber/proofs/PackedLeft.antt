@@ -1,24 +1,24 @@
 -- What is left of a packed field: how its scan and the body made of it answer for the whole field.
-use Rattle.std.proofs.Common.{◌≡◌, Bool, true, ◌||◌, ◌≢◌, ℕ, ◌≤◌, List, [], ◌∷◌, ◌++◌, length, take, drop, Option, Some, None, refl, sym, ap, ◌∙◌, subst, arith}
+use Rattle.std.proofs.Common.{◌≡◌, Bool, true, false, eqb, ◌||◌, ◌≢◌, ℕ, ◌≤◌, List, [], ◌∷◌, ◌++◌, length, take, drop, Option, Some, None, refl, sym, ap, ◌∙◌, subst, arith}
 use Rattle.std.specs.Option.{unwrap_or}
 use Rattle.std.specs.List.{flat_map, AllByRecursion}
+use Rattle.std.proofs.lemmas.Bool.{cond_both, eqb-true, eq-eqb, not_from_true, or_left}
 use Rattle.std.proofs.lemmas.List.{append-nil, append_cancel_left, drop_all, take_all, length-append}
 use Rattle.std.proofs.lemmas.List.Concat.{flat_map-append}
 use Rattle.mvt_document.specs.Plain.{Number, Spelled, Eight, Four, Delimited, Group, Field}
-use Rattle.mvt_document.specs.Wire.{spelling}
-use Rattle.mvt_document.specs.Bodies.{number_of}
+use Rattle.mvt_document.specs.Wire.{minimal, spelling}
 use Rattle.mvt_document.specs.Stands.{field_of}
 use Rattle.mvt_document.specs.Groups.{IsNumber}
 use Rattle.mvt_document.specs.declared.varint.Varint.{Varint}
 use Rattle.mvt_document.specs.declared.field.FieldParts as program
 use Rattle.mvt_document.proofs.EachItem.{all_joined}
 use Rattle.mvt_document.proofs.Spelling.{spelling_some, length-spell}
-use Rattle.mvt_renumber.specs.Renumbering.{renumbered, some_changed, with_left}
+use Rattle.mvt_renumber.specs.Renumbering.{is_changed, renumbered, some_changed, with_left, with_number}
 use Rattle.mvt_renumber.specs.Fates.{IsChange, changes, left_of_fate}
-use Rattle.mvt_renumber.specs.Deciding.{packed_numbers, packed_field, with_bytes, StaysBefore, FirstDiffers, AllStayOf, IsLeft}
+use Rattle.mvt_renumber.specs.Deciding.{packed_numbers, packed_field, with_bytes, StaysBefore, FirstChanges, AllStayOf, IsLeft}
 use Rattle.mvt_renumber.specs.declared.fate.Fate.{Fate}
 use Rattle.mvt_renumber.specs.declared.fate.Fate.TheVariants.{Stays, Goes, Becomes}
-use Rattle.mvt_renumber.proofs.Decisions.{renumbered-none, renumbered-no_more, packed-spellings}
+use Rattle.mvt_renumber.proofs.Decisions.{begins_with, renumbered_more, renumbered-none, renumbered-no_more, packed-spellings}
 
 -- ---- numbers that stay
 
@@ -46,31 +46,46 @@ all_stay-end bytes decisions place left whole s =
 
 -- ---- the first that does not stay
 
-differs_by : (left following : List (Option ℕ)) (number : Varint) (fate : Fate Varint) → (fate ≡ Stays → ⊥) → IsChange number_of (number_of number) fate
-    → (more : List Number) → renumbered left (number_of number ∷ more) ≡ left_of_fate number_of (number_of number) fate ++ renumbered following more
-    → renumbered left (number_of number ∷ more) ≢ number_of number ∷ more
-differs_by left following number Stays not_stays change more e same = not_stays refl
-differs_by left following number Goes not_stays change more e same =
-    absurd (omega (arith, renumbered-no_more following more, ap length (sym e ∙ same)))
-differs_by left following number (Becomes other) not_stays change more e same =
-    let both : number_of other ∷ renumbered following more ≡ number_of number ∷ more = sym e ∙ same in
-    let head : number_of other ≡ number_of number = cc in
-    change head
-
-changed_by : (fate : Fate Varint) (others : Bool) → (fate ≡ Stays → ⊥) → changes fate || others ≡ true
+pub changed_by : (fate : Fate Varint) (others : Bool) → (fate ≡ Stays → ⊥) → changes fate || others ≡ true
 changed_by Stays others not_stays = absurd (not_stays refl)
 changed_by Goes others not_stays = refl
 changed_by (Becomes other) others not_stays = refl
 
-pub first_differs : (rest : List ℕ) (left following : List (Option ℕ)) (number : Varint) (fate : Fate Varint) → (fate ≡ Stays → ⊥) → IsChange number_of (number_of number) fate
-    → ((more : List Number) → renumbered left (number_of number ∷ more) ≡ left_of_fate number_of (number_of number) fate ++ renumbered following more)
-    → ((more : List Number) → some_changed left (number_of number ∷ more) ≡ changes fate || some_changed following more)
-    → ((numbers : List Number) → packed_numbers rest ≡ Some numbers → (more : List Number) × (numbers ≡ number_of number ∷ more))
-    → FirstDiffers rest left
-first_differs rest left following number fate not_stays change decided changed begins numbers e =
-    let more = begins numbers e in
-    subst (λ (list : List Number). (renumbered left list ≢ list) × (some_changed left list ≡ true)) (sym more.1)
-    (differs_by left following number fate not_stays change more.0 (decided more.0), changed more.0 ∙ changed_by fate (some_changed following more.0) not_stays)
+from_none : (is : Bool) → is || false ≡ true → is ≡ true
+from_none true e = refl
+from_none false e = e
+
+with_number-value : (value : ℕ) (number : Number) → (with_number value number).value ≡ value
+with_number-value value number =
+    cond_both (eqb number.value value) number (minimal value) (λ new. new.value ≡ value) (λ t. eqb-true number.value value t) (λ _. refl)
+
+other_number : (value : ℕ) (number : Number) → is_changed (number, Some value) ≡ true → with_number value number ≢ number
+other_number value number changed same =
+    let kept : value ≡ number.value = sym (with_number-value value number) ∙ ap (λ (n : Number). n.value) same in
+    let unchanged : is_changed (number, Some value) ≡ false = not_from_true (eqb value number.value) (eq-eqb value number.value kept) in
+    absurd (cc)
+
+-- where the first number changes, others are left
+first_left : (decisions : List (Option ℕ)) (number : Number) (more : List Number) → some_changed decisions (number ∷ []) ≡ true → renumbered decisions (number ∷ more) ≢ number ∷ more
+first_left [] number more changed same = absurd (cc)
+first_left (None ∷ decisions) number more changed same =
+    absurd (omega (arith, renumbered-no_more decisions more, ap length (sym (renumbered_more None decisions number more) ∙ same)))
+first_left (Some value ∷ decisions) number more changed same =
+    let both : with_number value number ∷ renumbered decisions more ≡ number ∷ more = sym (renumbered_more (Some value) decisions number more) ∙ same in
+    let head : with_number value number ≡ number = cc in
+    other_number value number (from_none (is_changed (number, Some value)) changed) head
+
+-- and some number changes
+some_first : (decisions : List (Option ℕ)) (number : Number) (more : List Number) → some_changed decisions (number ∷ []) ≡ true → some_changed decisions (number ∷ more) ≡ true
+some_first [] number more changed = changed
+some_first (decision ∷ decisions) number more changed = or_left (is_changed (number, decision)) (some_changed decisions more) (from_none (is_changed (number, decision)) changed)
+
+-- a packed body of which that holds changes
+first_differs : (bytes : List ℕ) (decisions : List (Option ℕ)) → FirstChanges bytes decisions → (numbers : List Number) → packed_numbers bytes ≡ Some numbers → (renumbered decisions numbers ≢ numbers) × (some_changed decisions numbers ≡ true)
+first_differs bytes decisions first numbers e =
+    let begins = begins_with first.number bytes first.valid first.spelled numbers e in
+    subst (λ (list : List Number). (renumbered decisions list ≢ list) × (some_changed decisions list ≡ true)) (sym begins.1)
+    (first_left decisions first.number begins.0 first.changed, some_first decisions first.number begins.0 first.changed)
 
 -- ---- the whole body
 
@@ -85,8 +100,9 @@ pub record IsChanged (bytes : List ℕ) (decisions : List (Option ℕ)) (made : 
   pub some : some_changed decisions numbers ≡ true
 
 pub whole_changed : (bytes : List ℕ) (decisions : List (Option ℕ)) (place : ℕ) (from : List (Option ℕ)) (made : List ℕ) (left : List (Option ℕ))
-    → StaysBefore bytes decisions place from → FirstDiffers (drop place bytes) from → IsLeft (take place bytes) (drop place bytes) from made left → IsChanged bytes decisions made left
-whole_changed bytes decisions place from made left s differs m =
+    → StaysBefore bytes decisions place from → FirstChanges (drop place bytes) from → IsLeft (take place bytes) (drop place bytes) from made left → IsChanged bytes decisions made left
+whole_changed bytes decisions place from made left s first m =
+    let differs = first_differs (drop place bytes) from first m.numbers m.good in
     let new : renumbered decisions (s.read ++ m.numbers) ≡ s.read ++ renumbered from m.numbers = s.stay m.numbers in
     record {
       numbers = s.read ++ m.numbers;
@@ -97,9 +113,9 @@ whole_changed bytes decisions place from made left s differs m =
           ∙ ap (λ (b : List ℕ). b ++ flat_map spelling (renumbered from m.numbers)) s.spelled
           ∙ sym (flat_map-append spelling s.read (renumbered from m.numbers))
           ∙ ap (flat_map spelling) (sym new);
-      differs = λ same. (differs m.numbers m.good).0 (append_cancel_left s.read (renumbered from m.numbers) m.numbers (sym new ∙ same));
+      differs = λ same. differs.0 (append_cancel_left s.read (renumbered from m.numbers) m.numbers (sym new ∙ same));
       following = m.following ∙ sym (ap (λ (n : ℕ). drop n decisions) (length-append s.read m.numbers) ∙ s.following (length m.numbers));
-      some = s.same m.numbers ∙ (differs m.numbers m.good).1;
+      some = s.same m.numbers ∙ differs.1;
     }
 
 -- ---- the field

@@ -1,5 +1,5 @@
 -- A packed body whose numbers are each decided on, as far as it has been read.
-use Rattle.std.specs.Prelude.{◌≡◌, ◌≢◌, ℕ, true, false, ◌+◌, ◌<◌, List, [], ◌∷◌, ◌++◌, Option, Some, None, length, take, drop, map, option_map, slice_range}
+use Rattle.std.specs.Prelude.{◌≡◌, ℕ, true, false, ◌+◌, ◌<◌, List, [], ◌∷◌, ◌++◌, Option, Some, None, length, take, drop, map, option_map, slice_range}
 use Rattle.std.specs.List.{flat_map, AllByRecursion}
 use Rattle.std.specs.Option.{unwrap_or}
 use Rattle.mvt_document.specs.Plain.{Number, Delimited, Field}
@@ -35,9 +35,12 @@ pub record StaysBefore (bytes : List ℕ) (decisions : List (Option ℕ)) (place
   pub following : (more : ℕ) → drop (length read + more) decisions ≡ drop more left
   pub same : (more : List Number) → some_changed decisions (read ++ more) ≡ some_changed left more
 
--- these decisions change some of the numbers of this body, where it packs numbers and nothing else
-abbrev pub FirstDiffers : List ℕ → List (Option ℕ) → Type 0
-FirstDiffers bytes decisions = (numbers : List Number) → packed_numbers bytes ≡ Some numbers → (renumbered decisions numbers ≢ numbers) × (some_changed decisions numbers ≡ true)
+-- the body begins with a number that does not keep its value by the first of these decisions
+pub record FirstChanges (bytes : List ℕ) (decisions : List (Option ℕ)) : Type 0 where
+  pub number : Number
+  pub valid : IsNumber number
+  pub spelled : take number.width bytes ≡ spelling number
+  pub changed : some_changed decisions (number ∷ []) ≡ true
 
 -- these decisions are left after a packed body whose numbers all stay, or one that packs something else
 abbrev pub AllStayOf : List ℕ → List (Option ℕ) → List (Option ℕ) → Type 0
@@ -48,7 +51,7 @@ AllStayOf bytes decisions left = (left ≡ drop (length (unwrap_or (packed_numbe
 -- what was found in a packed body
 abbrev pub IsScanned : List ℕ → List (Option ℕ) → Scan → Type 0
 IsScanned bytes decisions (scan.AllStay left) = AllStayOf bytes decisions left.now
-IsScanned bytes decisions (scan.Changes place left) = (place < length bytes) × StaysBefore bytes decisions place left.now × FirstDiffers (drop place bytes) left.now
+IsScanned bytes decisions (scan.Changes place left) = (place < length bytes) × StaysBefore bytes decisions place left.now × FirstChanges (drop place bytes) left.now
 
 -- what a body that is being made will be up to this place of the old one
 abbrev pub made_up_to : List ℕ → ℕ → Making → List ℕ

@@ -1,6 +1,6 @@
 //! What becomes of a field when each of its numbers is decided on.
 
-ghost use Rattle.std.specs.Prelude.{◌≡◌, ℕ, true, ◌||◌, ◌+◌, ◌<◌, ◌≤◌, ◌++◌, List, [], ◌∷◌, length, take, drop, IfOk, OnOk, MatchOption};
+ghost use Rattle.std.specs.Prelude.{◌≡◌, ℕ, true, ◌||◌, ◌+◌, ◌<◌, ◌≤◌, ◌++◌, List, [], ◌∷◌, length, take, drop, max, is_some, vec_capacity, IfOk, IsErr, OnErr, OnOk, MatchOption};
 ghost use Rattle.std.specs.List.{flat_map};
 ghost use Rattle.std.specs.Option.{unwrap_or};
 ghost use Rattle.mvt_document.specs.Plain as plain;
@@ -8,6 +8,7 @@ ghost use Rattle.mvt_document.specs.Shape.{IsTag, IsWidth};
 ghost use Rattle.mvt_document.specs.Bodies.{number_of};
 ghost use Rattle.mvt_document.specs.Stands.{field_of};
 ghost use Rattle.mvt_document.specs.Wire.{spelling};
+ghost use Rattle.mvt_messages.specs.Views.{content_in};
 ghost use Rattle.mvt_renumber.specs.Deciding.{IsLeft, IsScanned, made_up_to, packed_field, packed_numbers, with_bytes};
 ghost use Rattle.mvt_renumber.specs.Fates.{IsChange, changes, left_of_fate};
 ghost use Rattle.mvt_renumber.specs.Renumbering.{field_numbers, renumbered, renumbered_field, some_changed, with_left};
@@ -18,8 +19,8 @@ use std::alloc::{AllocError, Global};
 
 /// What becomes of a field, by a decision for each number in the fields of its number, in order:
 /// the value that it gets, or none if it goes. Also the decisions that are left for the fields
-/// after it. Memory is asked for only if a packed body changes, and once if no number of it gets
-/// longer.
+/// after it. Memory is asked for only if a packed body has a number that does not stay, with nothing
+/// but numbers before it, and once if no number gets longer.
 #[inline(always)]
 pub fn renumber_field<'a>(
     alloc: Global,
@@ -31,6 +32,7 @@ pub fn renumber_field<'a>(
     ensures change { IfOk result (λ made. IsChange field_of (field_of field.now) made.0) }
     ensures changes { IfOk result (λ made. changes made.0 ≡ some_changed decisions.now (field_numbers number (field_of field.now))) }
     ensures left { IfOk result (λ made. made.1.now ≡ drop (length (field_numbers number (field_of field.now))) decisions.now) }
+    ensures packed { IsErr result → is_some (content_in number (field_of field.now)) ≡ true }
 {
     if field.number() != number {
         return Ok((Fate::Stays, decisions));
@@ -100,7 +102,7 @@ fn renumber_packed<'a>(
 }
 
 /// A packed field goes if nothing is left of it, and otherwise becomes one with what is left. If that is few
-/// bytes, the memory in which they were made is used for the next field.
+/// bytes, the memory in which they were made is given back.
 fn packed_fate(tag: Tag, width: u8, left: Vec<u8>) -> Fate<Field>
     requires tag { IsTag tag.value 2 }
     requires width { IsWidth width }
@@ -223,6 +225,7 @@ impl Making {
         requires number { take number.width (drop place bytes.now) ≡ spelling (number_of number) }
         ensures made { OnOk result (made_up_to bytes.now (place + number.width) self.new ≡ made_up_to bytes.now place self.old ++ flat_map spelling (left_of_fate number_of (number_of number) fate)) }
         ensures copied { OnOk result (self.new.copied ≤ place + number.width) }
+        ensures stays { fate ≡ Fate.Stays → self.new ≡ self.old }
     {
         match fate {
             Fate::Stays => return Ok(()),
@@ -256,6 +259,8 @@ impl Making {
     fn make_room(&mut self, whole: usize) -> Result<(), AllocError>
         ensures made { self.new.made.items ≡ self.old.made.items }
         ensures copied { self.new.copied ≡ self.old.copied }
+        ensures room { OnOk result (vec_capacity self.new.made ≡ max (vec_capacity self.old.made) whole) }
+        ensures full { OnErr result (vec_capacity self.old.made < whole) }
     {
         self.made
             .reserve_exact(whole.saturating_sub(self.made.len()))

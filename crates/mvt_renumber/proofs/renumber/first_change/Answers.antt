@@ -1,4 +1,4 @@
-use Rattle.std.proofs.Common.{◌||◌, ◌≡◌, ℕ, ◌+◌, ◌++◌, List, ◌∷◌, length, take, drop, subst, sym, ap, ◌∙◌, arith}
+use Rattle.std.proofs.Common.{◌||◌, ◌≡◌, ℕ, ◌+◌, ◌++◌, true, List, [], ◌∷◌, length, take, drop, subst, sym, ap, ◌∙◌, arith}
 use Rattle.std.proofs.lemmas.List.{length-drop, take_rest}
 use Rattle.mvt_document.specs.Plain.{Number}
 use Rattle.mvt_document.specs.Bodies.{number_of}
@@ -7,9 +7,9 @@ use Rattle.mvt_document.proofs.Spelling.{spelling_some}
 use Rattle.mvt_renumber.specs.Deciding.{StaysBefore}
 use Rattle.mvt_renumber.specs.Fates.{changes, left_of_fate}
 use Rattle.mvt_renumber.specs.Renumbering.{renumbered, some_changed}
-use Rattle.mvt_renumber.proofs.Decisions.{packed-none, begins_with}
+use Rattle.mvt_renumber.proofs.Decisions.{packed-none}
 use Rattle.mvt_renumber.proofs.Making.{stays_none, stays_more}
-use Rattle.mvt_renumber.proofs.PackedLeft.{all_stay-bad, all_stay-end, first_differs}
+use Rattle.mvt_renumber.proofs.PackedLeft.{all_stay-bad, all_stay-end, changed_by}
 use Rattle.mvt_renumber.proofs.renumber.first_change.Goals as goal
 
 pub loop-place-init : goal.loop-place-init
@@ -25,16 +25,13 @@ returns-in_default c =
 
 pub returns-in_default-fate : goal.returns-in_default-fate
 returns-in_default-fate c =
-    let bytes = c.args.bytes.now in
     let place = c.loop-place.place in
     let n = number_of c.in-Some.number in
-    let found : take n.width (drop place bytes) ≡ spelling n =
-    ap (take n.width) (sym (take_rest bytes place)) ∙ c.in-Some.ensures.found in (
-      c.loop-place-test.true,
-      c.loop-place.invariant.stays,
-      first_differs (drop place bytes) c.loop-place.left.now c.first_fate-fate.result.1.now c.in-Some.number c.first_fate-fate.result.0 c.in_default-fate.not-Stays c.first_fate-fate.ensures.change c.first_fate-fate.ensures.fate c.first_fate-fate.ensures.changes
-          (begins_with n (drop place bytes) c.in-Some.number.spelled found),
-    )
+    let found : take n.width (drop place c.args.bytes.now) ≡ spelling n =
+    ap (take n.width) (sym (take_rest c.args.bytes.now place)) ∙ c.in-Some.ensures.found in
+    let changed : some_changed c.loop-place.left.now (n ∷ []) ≡ true =
+    c.first_fate-fate.ensures.changes [] ∙ changed_by c.first_fate-fate.result.0 (some_changed c.first_fate-fate.result.1.now []) c.in_default-fate.not-Stays in
+    (c.loop-place-test.true, c.loop-place.invariant.stays, record { number = n; valid = c.in-Some.number.spelled; spelled = found; changed = changed })
 
 pub loop-place-smaller : goal.loop-place-smaller
 loop-place-smaller c = omega (arith, spelling_some c.in-Some.number.value c.in-Some.number.width c.in-Some.number.spelled)
