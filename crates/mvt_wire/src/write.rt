@@ -49,7 +49,8 @@ pub fn write_document_into(
 
 /// The vector, if it has memory for `size` bytes, or else an empty one in its place.
 fn kept_for(alloc: Global, size: usize, room: Vec<u8>) -> Vec<u8>
-    ensures { size ≤ vec_capacity room → result ≡ room }
+    ensures kept { size ≤ vec_capacity room → result ≡ room }
+    ensures fresh { vec_capacity room < size → vec_capacity result ≡ 0 }
 {
     if size <= room.capacity() {
         room

@@ -43,5 +43,5 @@ returns-clause-too_large c = (
 pub returns-in_err-resize-clause-no_memory : goal.returns-in_err-resize-clause-no_memory
 returns-in_err-resize-clause-no_memory c = λ e. rw flat_map-map (elim (cases_lt (vec_capacity c.args.room) c.in-Some.size) [
   | inl less ↦ omega (arith, less, c.in-Some.ensures.1)
-  | inr enough ↦ absurd (let same = ap vec_capacity (c.kept_for-file.ensures enough) in let full = c.in_err-resize.ensures.full in omega (arith, same, full))
+  | inr enough ↦ absurd (let same = ap vec_capacity (c.kept_for-file.ensures.kept enough) in let full = c.in_err-resize.ensures.full in omega (arith, same, full))
 ])
