@@ -20,7 +20,9 @@ pub enum GeometryError {
 /// Why a geometry was not written.
 #[derive(Clone, Copy, Debug, PartialEq, Eq, Error)]
 pub enum EncodeError {
-    /// A delta from a point to the next, or the count of a part's points, is too great for its number.
+    /// A delta from (0, 0) to the first point, or from a point to the next, is too far from 0 for its
+    /// number, or a count is too great: that of dots, or of the points after the first of a line or a
+    /// ring.
     #[error("the geometry is out of range")]
     OutOfRange,
     /// A growth was refused.

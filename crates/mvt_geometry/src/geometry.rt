@@ -5,7 +5,8 @@ use crate::valid::is_geometry;
 use mvt_document::Items;
 use std::marker::Model;
 
-/// A geometry whose parts have as many points as their kind requires. Contracts see its points.
+/// A geometry: as many parts as its kind requires, each with as many points as the kind requires, and
+/// coordinates from -2^62 to 2^62. Contracts see its points.
 #[derive(Debug, Drop)]
 pub struct Geometry {
     kind: Kind,

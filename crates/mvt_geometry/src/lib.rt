@@ -5,8 +5,8 @@
 //!   of parts exactly when this holds (`valid`), and consists of these parts (`ok`); otherwise the
 //!   parts come back as they were (`err`): `Geometry::new`.
 //! - Numbers are read as the geometry that has exactly these integers (`found`), and refused only
-//!   if there is none of the kind (`bad`); only an out-of-memory error may come in place of either:
-//!   `geometry_of`.
+//!   if there is none of the kind (`bad`); only an out-of-memory error may come in place of either,
+//!   and not if the kind is none (`no_kind`): `geometry_of`.
 //! - A geometry is written as its integers, each in its shortest spelling (`bytes`), only if each
 //!   delta from point to point and each count fits an integer of 32 bits (`in_range`). It is
 //!   refused as out of range only if one does not (`out_of_range`); only an out-of-memory error may

@@ -24,6 +24,7 @@ pub(crate) const CLOSE_PATH: u32 = 15;
 pub fn geometry_of(alloc: Global, kind: u64, numbers: &[u32]) -> Result<Geometry, GeometryError>
     ensures found { IfOk result (HasGeometry kind numbers.now) }
     ensures bad { IsErrOf result GeometryError.BadGeometry → (g : PlainGeometry) → HasGeometry kind numbers.now g → ⊥ }
+    ensures no_kind { ((k : Kind) → kind_number k ≡ kind → ⊥) → IsErrOf result GeometryError.BadGeometry }
 {
     let Some(kind) = Kind::from_number(kind) else {
         return Err(GeometryError::BadGeometry);
