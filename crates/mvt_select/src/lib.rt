@@ -6,7 +6,8 @@
 //! - The selected layers, one or all, come in their order, each with its ordinal and its position,
 //!   or are refused: `find_layers`.
 //! - The position of the layer or the feature of an ordinal: `place_of_layer`, `place_of_feature`.
-//! - Whether a layer of another ordinal has a name is found in the same walk: `find_and_taken`.
+//! - The selected layer, and whether a layer of another ordinal has a name, in one walk if the layer is
+//!   selected by its name: `find_and_taken`.
 //! - The last name of a layer, which is the one that counts, is found by position: `last_name`.
 #![tactic(auto)]
 
