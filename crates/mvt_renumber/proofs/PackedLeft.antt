@@ -1,9 +1,9 @@
 -- What is left of a packed field: how its scan and the body made of it answer for the whole field.
-use Rattle.std.proofs.Common.{◌≡◌, Bool, true, false, eqb, ◌||◌, ◌≢◌, ℕ, ◌≤◌, List, [], ◌∷◌, ◌++◌, length, take, drop, Option, Some, None, refl, sym, ap, ◌∙◌, subst, arith}
+use Rattle.std.proofs.Common.{◌≡◌, Bool, true, false, eqb, ◌||◌, ◌≢◌, ℕ, ◌≤◌, List, [], ◌∷◌, ◌++◌, length, take, drop, Option, Some, None, refl, sym, ap, ◌∙◌, subst, append_assoc, arith}
 use Rattle.std.specs.Option.{unwrap_or}
 use Rattle.std.specs.List.{flat_map, AllByRecursion}
 use Rattle.std.proofs.lemmas.Bool.{cond_both, eqb-true, eq-eqb, not_from_true, or_left}
-use Rattle.std.proofs.lemmas.List.{append-nil, append_cancel_left, drop_all, take_all, length-append}
+use Rattle.std.proofs.lemmas.List.{append-nil, append_cancel_left, drop_all, take_all, take-append-drop, length-append}
 use Rattle.std.proofs.lemmas.List.Concat.{flat_map-append}
 use Rattle.mvt_document.specs.Plain.{Number, Spelled, Eight, Four, Delimited, Group, Field}
 use Rattle.mvt_document.specs.Wire.{minimal, spelling}
@@ -15,7 +15,7 @@ use Rattle.mvt_document.proofs.EachItem.{all_joined}
 use Rattle.mvt_document.proofs.Spelling.{spelling_some, length-spell}
 use Rattle.mvt_renumber.specs.Renumbering.{is_changed, renumbered, some_changed, with_left, with_number}
 use Rattle.mvt_renumber.specs.Fates.{IsChange, changes, left_of_fate}
-use Rattle.mvt_renumber.specs.Deciding.{packed_numbers, packed_field, with_bytes, StaysBefore, FirstChanges, AllStayOf, IsLeft}
+use Rattle.mvt_renumber.specs.Deciding.{packed_numbers, packed_field, with_bytes, BeginsChanged, StaysBefore, FirstChanges, AllStayOf, IsLeft}
 use Rattle.mvt_renumber.specs.declared.fate.Fate.{Fate}
 use Rattle.mvt_renumber.specs.declared.fate.Fate.TheVariants.{Stays, Goes, Becomes}
 use Rattle.mvt_renumber.proofs.Decisions.{begins_with, renumbered_more, renumbered-none, renumbered-no_more, packed-spellings}
@@ -86,6 +86,27 @@ first_differs bytes decisions first numbers e =
     let begins = begins_with first.number bytes first.valid first.spelled numbers e in
     subst (λ (list : List Number). (renumbered decisions list ≢ list) × (some_changed decisions list ≡ true)) (sym begins.1)
     (first_left decisions first.number begins.0 first.changed, some_first decisions first.number begins.0 first.changed)
+
+-- the numbers up to the first that changes
+pub begins_changed : (bytes : List ℕ) (decisions : List (Option ℕ)) (place : ℕ) (from : List (Option ℕ)) → StaysBefore bytes decisions place from → FirstChanges (drop place bytes) from → BeginsChanged bytes decisions
+begins_changed bytes decisions place from s first =
+    let rest = drop first.number.width (drop place bytes) in
+    let after : drop place bytes ≡ spelling first.number ++ rest =
+    sym (take-append-drop first.number.width (drop place bytes)) ∙ ap (λ (b : List ℕ). b ++ rest) first.spelled in
+    let joined : flat_map spelling (s.read ++ first.number ∷ []) ≡ flat_map spelling s.read ++ spelling first.number =
+    flat_map-append spelling s.read (first.number ∷ []) ∙ ap (λ (b : List ℕ). flat_map spelling s.read ++ b) (append-nil (spelling first.number)) in
+    record {
+      numbers = s.read ++ first.number ∷ [];
+      rest = rest;
+      valid = all_joined IsNumber s.read (first.number ∷ []) s.valid (first.valid, tt);
+      spelled =
+          sym (take-append-drop place bytes)
+          ∙ ap (λ (b : List ℕ). b ++ drop place bytes) s.spelled
+          ∙ ap (λ (b : List ℕ). flat_map spelling s.read ++ b) after
+          ∙ sym (append_assoc (flat_map spelling s.read) (spelling first.number) rest)
+          ∙ ap (λ (b : List ℕ). b ++ rest) (sym joined);
+      changed = s.same (first.number ∷ []) ∙ first.changed;
+    }
 
 -- ---- the whole body
 

@@ -42,6 +42,14 @@ pub record FirstChanges (bytes : List ℕ) (decisions : List (Option ℕ)) : Typ
   pub spelled : take number.width bytes ≡ spelling number
   pub changed : some_changed decisions (number ∷ []) ≡ true
 
+-- the body begins with numbers, and some of them do not keep their values by these decisions
+pub record BeginsChanged (bytes : List ℕ) (decisions : List (Option ℕ)) : Type 0 where
+  pub numbers : List Number
+  pub rest : List ℕ
+  pub valid : AllByRecursion IsNumber numbers
+  pub spelled : bytes ≡ flat_map spelling numbers ++ rest
+  pub changed : some_changed decisions numbers ≡ true
+
 -- these decisions are left after a packed body whose numbers all stay, or one that packs something else
 abbrev pub AllStayOf : List ℕ → List (Option ℕ) → List (Option ℕ) → Type 0
 AllStayOf bytes decisions left = (left ≡ drop (length (unwrap_or (packed_numbers bytes) [])) decisions)

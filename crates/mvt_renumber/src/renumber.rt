@@ -1,6 +1,6 @@
 //! What becomes of a field when each of its numbers is decided on.
 
-ghost use Rattle.std.specs.Prelude.{◌≡◌, ℕ, true, ◌||◌, ◌+◌, ◌<◌, ◌≤◌, ◌++◌, List, [], ◌∷◌, length, take, drop, max, is_some, vec_capacity, IfOk, IsErr, OnErr, OnOk, MatchOption};
+ghost use Rattle.std.specs.Prelude.{◌≡◌, ℕ, true, ◌||◌, ◌+◌, ◌<◌, ◌≤◌, ◌++◌, List, [], ◌∷◌, length, take, drop, max, is_some, vec_capacity, IfOk, IfSome, IsErr, OnErr, OnOk, MatchOption};
 ghost use Rattle.std.specs.List.{flat_map};
 ghost use Rattle.std.specs.Option.{unwrap_or};
 ghost use Rattle.mvt_document.specs.Plain as plain;
@@ -9,7 +9,7 @@ ghost use Rattle.mvt_document.specs.Bodies.{number_of};
 ghost use Rattle.mvt_document.specs.Stands.{field_of};
 ghost use Rattle.mvt_document.specs.Wire.{spelling};
 ghost use Rattle.mvt_messages.specs.Views.{content_in};
-ghost use Rattle.mvt_renumber.specs.Deciding.{IsLeft, IsScanned, made_up_to, packed_field, packed_numbers, with_bytes};
+ghost use Rattle.mvt_renumber.specs.Deciding.{BeginsChanged, IsLeft, IsScanned, made_up_to, packed_field, packed_numbers, with_bytes};
 ghost use Rattle.mvt_renumber.specs.Fates.{IsChange, changes, left_of_fate};
 ghost use Rattle.mvt_renumber.specs.Renumbering.{field_numbers, renumbered, renumbered_field, some_changed, with_left};
 
@@ -33,6 +33,7 @@ pub fn renumber_field<'a>(
     ensures changes { IfOk result (λ made. changes made.0 ≡ some_changed decisions.now (field_numbers number (field_of field.now))) }
     ensures left { IfOk result (λ made. made.1.now ≡ drop (length (field_numbers number (field_of field.now))) decisions.now) }
     ensures packed { IsErr result → is_some (content_in number (field_of field.now)) ≡ true }
+    ensures no_memory { IsErr result → IfSome (content_in number (field_of field.now)) (λ bytes. BeginsChanged bytes decisions.now) }
 {
     if field.number() != number {
         return Ok((Fate::Stays, decisions));
@@ -87,6 +88,7 @@ fn renumber_packed<'a>(
     ensures change { IfOk result (λ made. IsChange field_of (packed_field (number_of tag) width bytes.now) made.0) }
     ensures changes { IfOk result (λ made. changes made.0 ≡ some_changed decisions.now (unwrap_or (packed_numbers bytes.now) [])) }
     ensures left { IfOk result (λ made. made.1.now ≡ drop (length (unwrap_or (packed_numbers bytes.now) [])) decisions.now) }
+    ensures no_memory { IsErr result → BeginsChanged bytes.now decisions.now }
 {
     let (place, from) = match first_change(bytes, decisions) {
         Scan::AllStay(left) => return Ok((Fate::Stays, left)),

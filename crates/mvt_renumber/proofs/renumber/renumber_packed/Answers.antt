@@ -1,7 +1,7 @@
 use Rattle.std.proofs.Common.{◌∙◌, sym}
 use Rattle.mvt_document.specs.Bodies.{number_of}
 use Rattle.mvt_renumber.specs.Deciding.{packed_field}
-use Rattle.mvt_renumber.proofs.PackedLeft.{IsChanged, whole_changed, changed_left, changed_after, changed_field, changed_some}
+use Rattle.mvt_renumber.proofs.PackedLeft.{IsChanged, begins_changed, whole_changed, changed_left, changed_after, changed_field, changed_some}
 use Rattle.mvt_renumber.proofs.renumber.renumber_packed.Goals as goal
 use Rattle.mvt_renumber.proofs.renumber.renumber_packed.Goals.{In-Some}
 
@@ -26,3 +26,6 @@ returns-in-Some-clause-left c =
 pub returns-in-Some-clause-changes : goal.returns-in-Some-clause-changes
 returns-in-Some-clause-changes c =
     c.packed_fate.ensures.changes ∙ sym (changed_some c.args.bytes.now c.args.decisions.now c.in-Some.made.items c.in-Some.left.now (whole (goal.at.returns-in-Some-clause-changes c).In-Some))
+
+pub returns-in_err-changed_from-clause-no_memory : goal.returns-in_err-changed_from-clause-no_memory
+returns-in_err-changed_from-clause-no_memory c = λ _. begins_changed c.args.bytes.now c.args.decisions.now c.in-Changes.place c.in-Changes.from.now c.in-Changes.ensures.1 c.in-Changes.ensures.2
