@@ -1,28 +1,31 @@
 -- Items of which those of one kind stand in a run: which of them has an ordinal, how many there are, and what is beside them.
-use Rattle.std.proofs.Common.{◌≡◌, ℕ, zero, suc, ◌+◌, ◌-◌, ◌<◌, ◌≤◌, Bool, true, false, Option, Some, None, List, [], ◌∷◌, ◌++◌, length, length-append, length-drop, map, take, drop, take-append-drop, option_map, refl, sym, ap, ◌∙◌, append_assoc, arith}
+use Rattle.std.proofs.Common.{◌≡◌, ℕ, zero, suc, ◌+◌, ◌-◌, ◌<◌, ◌≤◌, Bool, true, false, Option, Some, None, List, [], ◌∷◌, ◌++◌, length, length-append, length-drop, map, take, drop, take-append-drop, get_or, option_map, refl, sym, ap, ◌∙◌, append_assoc, arith}
 use Rattle.std.specs.Prelude.{if◌then◌else◌, is_some, replicate, slice_get, MatchOption}
 use Rattle.std.specs.List.{cons_option, filter_map, enumerate_from, last_or}
 use Rattle.std.specs.Option.{option_and_then}
 use Rattle.std.proofs.lemmas.List.{append-nil, drop-drop, drop-map, drop_all, drop_at, length-map, length-replicate, length-take-le, map-append, take-map, take_all, take_at, nil_from_length}
 use Rattle.std.proofs.lemmas.List.Elements.{filter_map-append}
 use Rattle.std.proofs.lemmas.List.FromFn.{length-enumerate_from}
+use Rattle.std.proofs.lemmas.Option.{slice_get_read}
 use Rattle.mvt_document.specs.declared.body.Body.TheVariants as in_body
 use Rattle.mvt_document.specs.declared.document.LayerItem.{LayerItem}
 use Rattle.mvt_document.specs.declared.document.LayerItem.TheVariants as in_layer
+use Rattle.mvt_document.specs.declared.document.TileItem.{TileItem}
+use Rattle.mvt_document.specs.declared.document.TileItem.TheVariants as in_tile
 use Rattle.mvt_document.specs.declared.run.Kind.TheVariants.{Message}
 use Rattle.mvt_document.specs.declared.run.Run.{Run}
-use Rattle.mvt_document.specs.Kinds.{in_layer_of_kind, is_delimited, is_entry, is_feature}
+use Rattle.mvt_document.specs.Kinds.{in_layer_of_kind, in_tile_of_kind, is_delimited, is_entry, is_feature}
 use Rattle.mvt_document.specs.Plain.{Feature}
 use Rattle.mvt_document.specs.Plain as plain
 use Rattle.mvt_document.specs.Runs.{one_run, IsRunOf}
 use Rattle.mvt_document.specs.Bodies.{body_of}
-use Rattle.mvt_document.specs.Stands.{layer_item_of}
+use Rattle.mvt_document.specs.Stands.{layer_item_of, tile_item_of}
 use Rattle.mvt_document.proofs.Running.{run_length}
 use Rattle.mvt_document.proofs.Options.{none_is, some_is}
 use Rattle.mvt_document.proofs.Lists.{last_there}
 use Rattle.mvt_messages.specs.Found.{with_position, placed_from, found_from, found_in}
 use Rattle.mvt_layers.specs.Pools.{PassesOver, entry_in}
-use Rattle.mvt_messages.specs.Views.{content_in, content_of, contents, feature_in, plain_fields}
+use Rattle.mvt_messages.specs.Views.{content_in, content_of, contents, feature_in, layer_in, plain_fields}
 use Rattle.mvt_layers.proofs.Placing.{found_items, placed_items}
 use Rattle.mvt_layers.proofs.Yielded.{last_joined, map_last}
 
@@ -251,6 +254,12 @@ module _ {X A B : Type 0} (view : X → A) (pick : A → Option B) (f : X → Bo
       ∙ ap (λ o. there o (0 + (run.first + k)) (slice_get items (run.first + k))) same
       ∙ ap (λ p. there k p (slice_get items (run.first + k))) at
 
+  -- and it is the one that is read there
+  pub run_read : (run : Run) (items : List X) (k : ℕ) (item : X) → IsRunOf f run items → k < run.count → item ≡ get_or items (run.first + k) item → slice_get (found_in pick (map view items)) k ≡ there k (run.first + k) (Some item)
+  run_read run items k item h inside read =
+      run_there run items k h inside
+      ∙ ap (there k (run.first + k)) (slice_get_read items (length items) (run.first + k) item refl (omega (arith, run_within f run items h, inside)) read)
+
   -- those that are not in the run are found after what is known
   pub run_past : (run : Run) (items : List X) (k : ℕ) → IsRunOf f run items → run.count ≤ k → slice_get (found_in pick (map view items)) k ≡ slice_get (found_from pick run.count run.until (map view items)) (k - run.count)
   run_past run items k h past =
@@ -283,7 +292,11 @@ module _ {X A B : Type 0} (view : X → A) (pick : A → Option B) (f : X → Bo
       let following = ap length (last_none (found_from pick run.count run.until (map view items)) none) in
       ap (last_or None) (nil_from_length (found_in pick (map view items)) (omega (arith, run_total run items h, following, count)))
 
--- ---- features, and entries
+-- ---- layers, features, and entries
+
+pub is_found_layer : (item : TileItem) → is_some (layer_in (tile_item_of item)) ≡ in_tile_of_kind Message item
+is_found_layer (in_tile.Layer layer) = refl
+is_found_layer (in_tile.Plain field) = refl
 
 pub is_found_feature : (item : LayerItem) → is_some (feature_in (layer_item_of item)) ≡ in_layer_of_kind Message item
 is_found_feature (in_layer.Feature feature) = refl

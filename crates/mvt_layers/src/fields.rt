@@ -4,16 +4,16 @@ ghost use Rattle.std.specs.Prelude.{◌≡◌, ◌+◌, ◌^◌, ◌<◌, ◌≤
 ghost use Rattle.std.specs.List.{filter_map, last_or};
 ghost use Rattle.std.specs.Option.{option_copied};
 ghost use Rattle.mvt_document.specs.declared.run.Kind.TheVariants.{Message};
-ghost use Rattle.mvt_document.specs.Kinds.{in_layer_of_kind};
+ghost use Rattle.mvt_document.specs.Kinds.{in_layer_of_kind, in_tile_of_kind};
 ghost use Rattle.mvt_document.specs.Runs.{IsRunOf};
 ghost use Rattle.mvt_document.specs.Stands.{feature_of, field_of, layer_item_of, layer_of, tile_item_of};
-ghost use Rattle.mvt_messages.specs.Found.{found_features, placed_from};
+ghost use Rattle.mvt_messages.specs.Found.{found_features, found_in, placed_from};
 ghost use Rattle.mvt_layers.specs.Pools.{PassesOver, entry_in};
-ghost use Rattle.mvt_layers.specs.Seen.{found_feature_seen};
+ghost use Rattle.mvt_layers.specs.Seen.{found_feature_seen, found_layer_seen};
 ghost use Rattle.mvt_layers.specs.WithId.{IsFirstWithId, IsPlacedIn};
 ghost use Rattle.mvt_messages.specs.Views.{content_in, contents, feature_in, has_id, last_value, layer_in, plain_fields, value_in};
 
-use crate::found::FoundFeature;
+use crate::found::{FoundFeature, FoundLayer};
 use mvt_document::{BodyRef, Feature, Field, Layer, LayerItem, Run, TileItem, value_in};
 
 /// The content of a LEN field of this number.
@@ -169,6 +169,27 @@ pub(crate) fn feature_in_run(
             feature,
         }),
         LayerItem::Plain(_) => None,
+    }
+}
+
+/// The layer with this ordinal, which is one of the run.
+pub(crate) fn layer_in_run(
+    items: &[TileItem],
+    layers: Run,
+    ordinal: usize,
+) -> Option<FoundLayer<'_>>
+    requires run { IsRunOf (in_tile_of_kind Message) layers items.now }
+    requires there { ordinal < layers.count }
+    ensures { option_map found_layer_seen result ≡ slice_get (found_in layer_in (map tile_item_of items.now)) ordinal }
+{
+    let position = layers.first + ordinal;
+    match &items[position] {
+        TileItem::Layer(layer) => Some(FoundLayer {
+            ordinal,
+            position,
+            layer,
+        }),
+        TileItem::Plain(_) => None,
     }
 }
 

@@ -30,9 +30,13 @@ impl<'a> Model for LayerViews<'a> {
 }
 
 impl<'a> LayerViews<'a> {
-    ghost use Rattle.std.specs.Prelude.{◌≡◌, ◌<◌, ◌^◌, length, map};
+    ghost use Rattle.std.specs.Prelude.{◌≡◌, ◌+◌, ◌<◌, ◌^◌, length, map};
     ghost use Rattle.mvt_document.specs.Stands.{tile_item_of};
-    ghost use Rattle.mvt_messages.specs.Found.{found_layers};
+    ghost use Rattle.mvt_document.specs.declared.run.Kind.TheVariants.{Message};
+    ghost use Rattle.mvt_document.specs.Kinds.{in_tile_of_kind};
+    ghost use Rattle.mvt_document.specs.Runs.{IsRunOf};
+    ghost use Rattle.mvt_messages.specs.Found.{found_from, found_layers};
+    ghost use Rattle.mvt_messages.specs.Views.{layer_in};
 
     pub(crate) fn of(items: &'a [TileItem]) -> LayerViews<'a>
         ensures items { result ≡ found_layers (map tile_item_of items.now) }
@@ -42,6 +46,19 @@ impl<'a> LayerViews<'a> {
             items,
             position: 0,
             ordinal: 0,
+        }
+    }
+
+    /// Those that are not in the run of the first of them.
+    pub(crate) fn following(items: &'a [TileItem], layers: Run) -> LayerViews<'a>
+        requires { IsRunOf (in_tile_of_kind Message) layers items.now }
+        ensures items { result ≡ found_from layer_in layers.count layers.until (map tile_item_of items.now) }
+        ensures bound { layers.count + length result < 2 ^ 64 }
+    {
+        LayerViews {
+            items,
+            position: layers.until,
+            ordinal: layers.count,
         }
     }
 }

@@ -13,6 +13,7 @@ ghost use Rattle.mvt_layers.specs.Seen.{found_feature_seen, found_layer_seen, la
 ghost use Rattle.mvt_layers.specs.declared.select.LayerError.TheVariants.{AmbiguousLayer, NoLayer};
 ghost use Rattle.mvt_layers.specs.declared.select.FeatureError.TheVariants.{AmbiguousFeature, NoFeature};
 
+use crate::fields::layer_in_run;
 use crate::found::{FoundFeature, FoundLayer};
 use crate::lists::LayerViews;
 use crate::views::LayerView;
@@ -48,14 +49,20 @@ pub fn layers(document: &Document) -> LayerViews<'_>
 pub fn layer_count(document: &Document) -> usize
     ensures { result ≡ length (layers (document_of document.now)) }
 {
-    layers(document).count()
+    let layers = document.items.runs().messages;
+    layers.count + LayerViews::following(document.items.as_slice(), layers).count()
 }
 
 /// The layer with this ordinal.
 pub fn layer(document: &Document, ordinal: usize) -> Option<FoundLayer<'_>>
     ensures { option_map found_layer_seen result ≡ slice_get (found_layers (document_of document.now)) ordinal }
 {
-    layers(document).nth(ordinal)
+    let items = document.items.as_slice();
+    let layers = document.items.runs().messages;
+    if ordinal < layers.count {
+        return layer_in_run(items, layers, ordinal);
+    }
+    LayerViews::following(items, layers).nth(ordinal - layers.count)
 }
 
 /// The one layer with this name.
