@@ -1,7 +1,7 @@
 //! A feature is inserted at an ordinal.
 
 ghost use Rattle.std.specs.Prelude.{◌≡◌, ◌<◌, [], ◌∷◌, map, IfNone, IfOk, IfSome, IsErrOf, OnOk, length};
-ghost use Rattle.mvt_document.specs.Stands.{document_of, field_of, layer_item_of};
+ghost use Rattle.mvt_document.specs.Stands.{document_of, field_of, layer_item_of, layer_of};
 ghost use Rattle.mvt_geometry.specs.Shapes.{kind_number};
 ghost use Rattle.mvt_geometry.specs.Integers.{IsInRange};
 ghost use Rattle.mvt_messages.specs.Views.{features_in};
@@ -15,12 +15,12 @@ ghost use Rattle.mvt_edit_steps.specs.Prepared.{Prepares};
 use mvt_change::{Change, Step};
 use mvt_document::tags::{FEATURE_TAG, GEOMETRY_TAG, KIND_TAG};
 use mvt_document::{
-    Body, Document, Feature, FeatureParts, Field, FieldParts, Items, LayerItem, MessageTag, Put,
-    Tag, Varint,
+    Body, Document, Feature, FeatureParts, Field, FieldParts, Items, Layer, LayerItem, MessageTag,
+    Put, Tag, Varint,
 };
 use mvt_edit_steps::one_step_within_limit;
 use mvt_geometry::{EncodeError, Geometry, Kind, encode_geometry};
-use mvt_select::{LayerChoice, Refusal, find_layer};
+use mvt_select::{LayerChoice, Refusal, find_layer, place_of_feature};
 use std::alloc::{AllocError, Global};
 
 /// Inserts a feature with this geometry into the layer.
@@ -34,7 +34,7 @@ pub fn insert_feature(
     ensures { Prepares (InsertFeature (layer_choice_of choice.now) index geometry.now) (document_of document.now) result }
 {
     let found = find_layer(document, choice)?;
-    let place = place_of_new(found.layer.items.as_slice(), index).ok_or(Refusal::BadPlace)?;
+    let place = place_of_new(found.layer, index).ok_or(Refusal::BadPlace)?;
     let feature = new_feature(alloc, geometry)?;
     let step = Step::InLayer {
         layer: found.position,
@@ -47,32 +47,19 @@ pub fn insert_feature(
 
 /// Where to put a new feature for it to have this ordinal: right before the feature that has it; if
 /// none has it so far, right after the last feature, or at the end.
-fn place_of_new(items: &[LayerItem], ordinal: u64) -> Option<usize>
-    ensures place { IfSome result (IsPlaceFor is_feature ordinal (map layer_item_of items.now)) }
-    ensures none { IfNone result (length (features_in (map layer_item_of items.now)) < ordinal) }
+fn place_of_new(layer: &Layer, ordinal: u64) -> Option<usize>
+    ensures place { IfSome result (IsPlaceFor is_feature ordinal (layer_of layer.now).items) }
+    ensures none { IfNone result (length (features_in (layer_of layer.now).items) < ordinal) }
 {
-    let mut before = 0;
-    let mut following = items.len();
-    for (position, item) in items.iter().enumerate() {
-        if is_feature(item) {
-            if before == ordinal {
-                return Some(position);
-            }
-            before += 1;
-            following = position + 1;
-        }
+    if let Some(place) = place_of_feature(layer, ordinal) {
+        return Some(place);
     }
-    if before == ordinal {
-        Some(following)
-    } else {
-        None
+    let end = layer.items.len();
+    if ordinal == 0 {
+        return Some(end);
     }
-}
-
-fn is_feature(item: &LayerItem) -> bool
-    ensures { result ≡ is_feature (layer_item_of item.now) }
-{
-    matches!(item, LayerItem::Feature(_))
+    let last = place_of_feature(layer, ordinal - 1)?;
+    Some(last + 1)
 }
 
 /// A feature with this geometry, in its shortest spelling.
