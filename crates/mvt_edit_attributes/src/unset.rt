@@ -17,6 +17,7 @@ use mvt_change::Change;
 use mvt_document::Document;
 use mvt_document::tags::TAGS;
 use mvt_edit_steps::{decide_or_refuse, named_keys, renumber_feature};
+use mvt_layers::PoolSizes;
 use mvt_select::{
     FeatureChoice, FoundFeature, FoundLayer, LayerChoice, Refusal, find_feature, find_layer,
 };
@@ -59,11 +60,15 @@ fn decide(
     if !is_any(named.as_slice()) {
         return Err(Refusal::NoKey);
     }
+    let sizes = PoolSizes {
+        keys: named.len(),
+        values: layer.value_count(),
+    };
     let mut decisions = Vec::new(alloc);
     decide_or_refuse(
         holder.ordinal,
         found,
-        layer.pool_sizes(),
+        sizes,
         named.as_slice(),
         None,
         &mut decisions,
