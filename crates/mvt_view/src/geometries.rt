@@ -8,23 +8,27 @@ ghost use Rattle.mvt_geometry.specs.Shapes.{Geometry as PlainGeometry};
 ghost use Rattle.mvt_view.specs.FeatureGeometry.{HasFeatureGeometry, integer_in, integers_in};
 ghost use Rattle.mvt_layers.specs.Seen.{feature_seen};
 
-use mvt_geometry::{Geometry, GeometryError, geometry_of};
+use mvt_geometry::{Geometry, GeometryError, Kind, geometry_of};
 use mvt_layers::FeatureView;
 use mvt_messages::{BadChunk, Number, Numbers};
 use std::alloc::Global;
 
-/// The geometry whose numbers the feature has, for its kind. If one of them can't be read, or has
-/// more than 32 bits, no memory is asked for.
+/// The geometry whose numbers the feature has, for its kind. If there is no such kind, or one of the
+/// numbers can't be read or has more than 32 bits, no memory is asked for.
 pub fn geometry(alloc: Global, feature: &FeatureView) -> Result<Geometry, GeometryError>
     ensures found { IfOk result (HasFeatureGeometry (feature_seen feature.now)) }
     ensures bad { IsErrOf result GeometryError.BadGeometry → (geometry : PlainGeometry) → HasFeatureGeometry (feature_seen feature.now) geometry → ⊥ }
     ensures unreadable { integers_in (numbers 4 (feature_seen feature.now).fields) ≡ None → IsErrOf result GeometryError.BadGeometry }
 {
+    let kind = feature.kind();
+    if Kind::from_number(kind).is_none() {
+        return Err(GeometryError::BadGeometry);
+    }
     if !are_integers(feature.geometry_numbers()) {
         return Err(GeometryError::BadGeometry);
     }
     let integers = integers(alloc, feature.geometry_numbers())?;
-    geometry_of(alloc, feature.kind(), integers.as_slice())
+    geometry_of(alloc, kind, integers.as_slice())
 }
 
 /// Whether all the numbers are integers of 32 bits.

@@ -1,9 +1,14 @@
-use Rattle.std.proofs.Common.{◌≡◌, Option, Some, None, false, is_some, refl, sym, ◌∙◌}
+use Rattle.std.proofs.Common.{sym, ◌∙◌}
 use Rattle.mvt_document.proofs.Options.{none_is}
 use Rattle.mvt_view.specs.FeatureGeometry.{integers_in}
 use Rattle.mvt_layers.specs.Seen.{feature_seen}
 use Rattle.mvt_view.proofs.Integers.{no_geometry}
 use Rattle.mvt_view.proofs.geometries.geometry.Goals as goal
+
+pub returns-then-is_none-clause-bad : goal.returns-then-is_none-clause-bad
+returns-then-is_none-clause-bad c =
+    let no_kind = rw (none_is c.from_number.result c.if-is_none.ensures) at c.from_number.ensures.none in
+    λ bad geometry found. no_kind geometry.kind (sym (c.kind-kind.ensures ∙ found.has.of_kind))
 
 pub returns-then-not-are_integers-clause-bad : goal.returns-then-not-are_integers-clause-bad
 returns-then-not-are_integers-clause-bad c =
