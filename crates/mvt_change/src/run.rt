@@ -233,6 +233,7 @@ fn list_of(step: &Step) -> Option<Place>
 /// first is alone on its list.
 fn list_of_run(steps: &[Step]) -> Option<Place>
     ensures some { IfSome result (λ place. AllByRecursion (IsOn (place_of place)) (take 2 steps.now)) }
+    ensures two { IfSome result (λ _. 2 ≤ length steps.now) }
     ensures none { result ≡ None → 2 ≤ length steps.now → (place : PlainPlace) → AllByRecursion (IsOn place) (take 2 steps.now) → ⊥ }
 {
     let place = list_of(steps.first()?)?;
