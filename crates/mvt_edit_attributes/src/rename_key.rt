@@ -37,7 +37,8 @@ pub fn rename_key(
     old: &[u8],
     new: &[u8],
 ) -> Result<Change, Refusal>
-    ensures { Prepares (RenameKey (layer_choice_of choice.now) old.now new.now) (document_of document.now) result }
+    ensures prepares { Prepares (RenameKey (layer_choice_of choice.now) old.now new.now) (document_of document.now) result }
+    ensures same { old.now ≡ new.now → IfOk result (λ change. change_of change ≡ []) }
 {
     let found = find_layer(document, choice)?;
     check(document, found, old, new)?;
