@@ -1,7 +1,7 @@
 //! What becomes of the items of a list, carried out in steps: neighbours that change are one step,
 //! and each step is on what the steps before it made.
 
-ghost use Rattle.std.specs.Prelude.{◌≡◌, ℕ, ◌+◌, ◌≤◌, ◌<◌, ◌^◌, Bool, List, [], ◌∷◌, ◌++◌, Option, Some, None, Ok, IfOk, IfSome, OnOk, map, option_map, length, if◌then◌else◌};
+ghost use Rattle.std.specs.Prelude.{◌≡◌, ℕ, ◌+◌, ◌≤◌, ◌<◌, ◌^◌, ◌↔◌, Bool, List, [], ◌∷◌, ◌++◌, Option, Some, None, Ok, IsOk, IfOk, IfSome, OnOk, map, option_map, length, if◌then◌else◌};
 ghost use Rattle.std.specs.Fn.{FnReturns, FnReturnsAt};
 ghost use Rattle.std.specs.List.{AllZip, cons_option, flat_map};
 ghost use Rattle.std.specs.Option.{option_map_or};
@@ -70,7 +70,8 @@ impl Run<TileItem> {
     /// The step that carries the run out on the items of the tile. An index of more than half a
     /// word is answered as out of memory; no tile of `MAX_FILE` bytes has one.
     pub fn in_tile(self) -> Result<Step, AllocError>
-        ensures { IfOk result (λ step. step_of step ≡ plain.TileStep self.index self.take (map tile_item_of self.put.items)) }
+        ensures step { IfOk result (λ step. step_of step ≡ plain.TileStep self.index self.take (map tile_item_of self.put.items)) }
+        ensures made { IsOk result ↔ (self.index < 2 ^ 32) }
     {
         let index = u32::try_from(self.index).map_err(|_| AllocError)?;
         Ok(Step::InTile {
