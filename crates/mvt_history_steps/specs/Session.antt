@@ -95,10 +95,10 @@ IsStop error = ⊥
 
 -- ---- start
 
--- the document comes back as it was, as too large, where no file can hold it, or out of memory
+-- the document comes back as it was: as too large, where no file can hold it, or out of memory, where one can
 abbrev pub NotStarted : held.Document → StartError → Type 0
 NotStarted document (TooLarge refused) = (refused ≡ document) × (MAX_FILE < length (bytes_of (document_of document)))
-NotStarted document (start.NoMemory refused) = refused ≡ document
+NotStarted document (start.NoMemory refused) = (refused ≡ document) × (length (bytes_of (document_of document)) ≤ MAX_FILE)
 
 -- ---- marks
 

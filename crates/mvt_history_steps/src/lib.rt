@@ -19,6 +19,7 @@
 #![tactic(auto)]
 
 mod error;
+pub mod laws;
 mod marks;
 mod steps;
 
