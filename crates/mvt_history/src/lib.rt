@@ -1,8 +1,8 @@
 //! A document that commands edit, with undo and redo, marks, and steps of several
 //! commands.
 //!
-//! - A session begins with the document and no history (`ok`), or hands the document back, as out
-//!   of memory or, only if no file can hold it, as too large (`err`): `Session::start`. It holds
+//! - A session begins with the document and no history (`ok`), or hands the document back, as too
+//!   large if no file can hold it, and else as out of memory (`err`): `Session::start`. It holds
 //!   the standing document of its history: the tile at the start with the steps that stand applied
 //!   in order, those of an open step last: `Session::document`.
 //! - Each request makes exactly the step of the definition, or is refused with exactly its refusal
