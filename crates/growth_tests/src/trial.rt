@@ -1,5 +1,6 @@
-//! The trials: for each command one, one for a layer that comes back to a full list, one for ids that
-//! go in two steps, and two for the changes of several commands as one.
+//! The trials: for each command one, and for `set` a second with a new key, one for a layer that comes
+//! back to a full list, one for ids that go in two steps, and two for the changes of several commands
+//! as one.
 
 use crate::fault::Fault;
 use crate::refused::{Refused, flip, flip_twice, prepare};

@@ -4,7 +4,7 @@
 //!   change that carries it out, and a refused one the first of its refusals, by the definition
 //!   `Prepares`: `compact`, for the pools that are to be compacted (`Pools`).
 //! - In each layer the steps on features come first, then those that take the entries out. The work
-//!   is proportional to the number of items, fields and pairs.
+//!   is proportional to the number of items, fields and pairs. No clause says either.
 #![tactic(auto)]
 
 pub mod compact;

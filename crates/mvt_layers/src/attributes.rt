@@ -53,8 +53,8 @@ impl<T: Drop> From<AllocFailed<T>> for PairsError {
     }
 }
 
-/// The pairs that the tags of a feature of this layer make. The layer's keys and values are counted once, in a
-/// pass over its items.
+/// The pairs that the tags of a feature of this layer make. The layer's keys and values are counted once, before
+/// the tags are read.
 pub fn pairs(
     alloc: Global,
     layer: &LayerView,

@@ -50,7 +50,7 @@ fn beside_run(items: &[LayerItem], features: Run) -> (&[LayerItem], &[LayerItem]
     )
 }
 
-/// The same among the fields of a layer.
+/// The value of the last VARINT field of this number among the fields of a layer.
 pub(crate) fn last_value_in_layer(layer: &Layer, number: u64) -> Option<u64>
     ensures { result ≡ last_value number (plain_fields (layer_of layer.now).items) }
 {

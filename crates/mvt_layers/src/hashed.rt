@@ -16,8 +16,8 @@ use crate::found::FoundFeature;
 use mvt_document::{Feature, Layer, LayerItem, Run, hash_of};
 use std::marker::Model;
 
-/// The features of a layer, in order, to be looked up by their ids: those of the run by the hashes of the ids,
-/// without a look at the features themselves. Contracts see those that are left.
+/// The features of a layer, in order, to be looked up by their ids: those of the run by the hashes of the ids, so
+/// that only those with the same hash are looked at. Contracts see those that are left.
 #[derive(Drop)]
 pub(crate) struct HashedFeatures<'a> {
     items: &'a [LayerItem],

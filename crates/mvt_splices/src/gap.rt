@@ -15,8 +15,8 @@ use std::mem;
 const FEW: usize = 4;
 
 /// A list that is open at a gap, in a ring: first what is after the gap, then what is before it. The gap goes
-/// to where a part is exchanged, so exchanges in order of their indexes, up or down, move each item once, and
-/// in the list's own memory. Contracts see the whole list, and also the room for more.
+/// to where a part is exchanged, so exchanges in order of their indexes move each item once, and down again once
+/// or twice, in the list's own memory. Contracts see the whole list, and also the room for more.
 pub struct Gap<T> {
     ring: VecDeque<T>,
     following: usize,

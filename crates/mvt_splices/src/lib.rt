@@ -3,8 +3,8 @@
 //! - A list that is open at a gap has what it had (`Gap::open`), gets room for more if that is
 //!   asked for (`Gap::reserve`), exchanges a part as the definition says (`Gap::exchange`), and is
 //!   closed with what it then has (`Gap::close`).
-//! - Of steps, each on what the ones before it made, the first that are on one list are carried out
-//!   (`run`), and no others (`ends`), in one pass over the steps. The list is what they make of it
+//! - Of steps, each on what the ones before it made, the first that are on one list are carried out,
+//!   all of them (`ends`) and no others (`run`), in one pass over the steps. The list is what they make of it
 //!   (`items`), with the room for its greatest length on the way (`greatest`); each is turned into
 //!   the one that leads back, with no less room (`are_turned`), and the others are as they were
 //!   (`left`). If memory runs out at a step, those before it are taken back at the gap, and nothing

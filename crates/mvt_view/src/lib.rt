@@ -6,8 +6,8 @@
 //!   kind. Only an out-of-memory error may come in place of either: `geometry`.
 //!
 //! `geometry` takes an allocator. The crate re-exports the names of `mvt_layers`, which has the
-//! views, of `mvt_messages` and of `mvt_geometry`, so it has everything that is seen of a tile, and
-//! the encoder of geometries. Definitions of these have paths in this crate too:
+//! views, and most of those of `mvt_messages` and of `mvt_geometry`, so it has everything that is
+//! seen of a tile, and the encoder of geometries. Some definitions have paths in this crate too:
 //! `Rattle.mvt_view.specs.Views` is the Views of `mvt_messages`.
 #![tactic(auto)]
 

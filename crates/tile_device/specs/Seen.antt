@@ -76,7 +76,7 @@ pub record Receives (old new : Seen) (output : Output) : Type 0 where
   pub meets : Meets old new output.retries output.trouble
   pub bytes : IsTrue new.tells → Appends old.bytes new.bytes output.bytes
 
--- `front` is a prefix of `whole`
+-- `whole` begins with `prefix`
 abbrev pub IsPrefix : List ℕ → List ℕ → Type 0
 IsPrefix prefix whole = (rest : List ℕ) × (whole ≡ prefix ++ rest)
 

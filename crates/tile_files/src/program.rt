@@ -113,7 +113,7 @@ fn outcome_of(
     run(alloc, tile, script, replies, out, options)
 }
 
-/// Prints on standard error why no tile was written, and returns the status.
+/// Returns the status of the outcome, and prints on standard error why no tile was written, unless replies say it.
 fn report<R: Eprint>(rt: &R, outcome: Outcome) -> u8 {
     match outcome {
         Outcome::Done => 0,

@@ -5,9 +5,9 @@
 //!   clauses.
 //! - `shell` is the program, from its words to its status; it is re-exported from `tile_files`.
 //!
-//! It re-exports `run`, `run_and_free` and the types that these take and return, `parse_line`,
-//! `listing`, `quote`, the commands, requests and refusals with their limits, the devices of the
-//! standard library, and modules of laws of the crates below it.
+//! It re-exports `run`, `run_and_free` and the types that these take and return, what cuts a script
+//! into its lines (`LineCutter`), `parse_line`, `listing`, `quote`, the commands, requests and refusals
+//! with their limits, the devices of the standard library, and modules of laws of the crates below it.
 #![tactic(auto)]
 
 mod in_memory;
@@ -20,7 +20,7 @@ pub use tile_arguments::{Request, What};
 pub use tile_course::Refused;
 pub use tile_device::{FromRead, FromWrite, Retries, Sink, Source, Trouble};
 pub use tile_files::shell;
-pub use tile_lines::laws as line_laws;
+pub use tile_lines::{Cut, LineCutter, laws as line_laws};
 pub use tile_listing::{laws as listing_laws, listing};
 pub use tile_run::{
     DeviceName, MAX_RETRIES, MAX_SCRIPT, Options, Outcome, TileFault, run, run_and_free,
