@@ -1,5 +1,5 @@
 -- Steps on one list, one after the other, and what a pass over the list makes of them.
-use Rattle.std.proofs.Common.{◌≡◌, ℕ, zero, suc, ◌<◌, ◌≤◌, List, [], ◌∷◌, length, map, take, drop, slice_index_or, Some, option_map, refl, sym, ap, ◌∙◌, subst, arith}
+use Rattle.std.proofs.Common.{◌≡◌, ◌≢◌, ℕ, zero, suc, ◌<◌, ◌≤◌, List, [], ◌∷◌, length, map, take, drop, slice_index_or, Some, option_map, refl, sym, ap, ◌∙◌, subst, arith}
 use Rattle.std.specs.Prelude.{Result, Ok, Err, IfOk}
 use Rattle.std.specs.List.{AllByRecursion, AllZip}
 use Rattle.std.specs.Option.{IsSomeAnd}
@@ -17,8 +17,10 @@ use Rattle.mvt_change.specs.ChangeStands.{SpliceAt, action_of, spliced_place, st
 use Rattle.mvt_change.specs.Room.{capacity, KeepsList, KeepsDocument}
 use Rattle.mvt_change.specs.HeldChanges.{HasHeldPart, exchanged, go_action, go_held_step, go_held, FindsAction, IsBack, IsTurnedAction, AreTurned}
 use Rattle.mvt_change.specs.Runs.{tile_splice, layer_splice, feature_splice, turned_in_tile, turned_in_layer, turned_in_feature, held_part, IsRoomierStep, IsOn, exchanged_all}
-use Rattle.mvt_change.specs.Underway.{Advances, carried_out}
+use Rattle.mvt_change.specs.Underway.{Advances, IsInFeatureOf, IsVisit, carried_out, item_at}
 use Rattle.mvt_change.specs.RunLaws.{roomy_tile, roomy_layer, roomy_feature}
+use Rattle.std.proofs.lemmas.Option.{same_Some}
+use Rattle.std.proofs.lemmas.List.{drop_all}
 use Rattle.mvt_document.proofs.Options.{where_some}
 use Rattle.mvt_change.proofs.Splicing.{length-part}
 use Rattle.mvt_change.proofs.Keeping.{Order, kept_items}
@@ -188,12 +190,37 @@ module _ (place : Place) where
         let keeps = subst (λ d. KeepsDocument d after) (list_part place document).same (becomes (λ x. x) list made found (kept_items (order_at place) list made met.items met.room) is) in
         (omega arith, none_advance steps new document after keeps (roomier_stand steps new met.are_roomier))
 
+    -- the steps that were carried out were made in the document: one or more, and all that come before a step elsewhere
+    abbrev IsMade : {E : Type 0} → Result ℕ E → Type 0
+    IsMade result = IfOk result (λ n. 0 < n) × (carried_out result ≤ length steps) × Advances (carried_out result) steps new document after × IfOk result (λ n. StartElsewhere (IsOn place) (drop n steps))
+
     -- the steps that were carried out on the list were made in the document
     pub run_advanced : {E : Type 0} (result : Result ℕ E) → 0 < length steps → AllByRecursion (IsOn place) (take 1 steps) → IsSomeAnd (held_list_at place document) (λ list. (made : Items) × Carries result list made × (after ≡ change_held_list place (λ x. made) document))
-        → IfOk result (λ n. 0 < n) × (carried_out result ≤ length steps) × Advances (carried_out result) steps new document after
+        → IsMade result
     run_advanced result some first there =
-        where_some (held_list_at place document) _ (λ o. held_list_at place document ≡ o → IfOk result (λ n. 0 < n) × (carried_out result ≤ length steps) × Advances (carried_out result) steps new document after)
-        (λ list p found. let made = advances result list p.0 found p.1 p.2 in (makes_some result steps some first p.1.ends, made.0, made.1)) there refl
+        where_some (held_list_at place document) _ (λ o. held_list_at place document ≡ o → IsMade result)
+        (λ list p found. let made = advances result list p.0 found p.1 p.2 in (makes_some result steps some first p.1.ends, made.0, made.1, p.1.ends)) there refl
+
+-- ---- the first steps, where two are on one list, and where not
+
+-- two places of the list that the first step is on are one, so the steps end elsewhere than at each of them
+pub run_ends : (n : ℕ) (at place : Place) (steps : List Step) → 2 ≤ length steps → AllByRecursion (IsOn at) (take 2 steps) → StartElsewhere (IsOn at) (drop n steps) → AllByRecursion (IsOn place) (take 2 steps) → StartElsewhere (IsOn place) (drop n steps)
+run_ends n at place [] two run ends on = absurd (omega arith)
+run_ends n at place (step ∷ steps) two run ends on =
+    subst (λ p. StartElsewhere (IsOn p) (drop n (step ∷ steps))) (same_Some at place (sym run.0 ∙ on.0)) ends
+
+-- where the first two steps are not on one list, a run is of one step at most, and that one is made
+pub alone_ends : {E : Type 0} (result : Result ℕ E) (steps : List Step) → (2 ≤ length steps → (place : Place) → AllByRecursion (IsOn place) (take 2 steps) → ⊥) → IfOk result (λ n. 0 < n) → IfOk result (λ n. (place : Place) → AllByRecursion (IsOn place) (take 2 steps) → StartElsewhere (IsOn place) (drop n steps))
+alone_ends (Ok n) [] apart some = λ place on. subst (StartElsewhere (IsOn place)) (sym (drop_all n [] (omega arith))) tt
+alone_ends (Ok n) (step ∷ []) apart some = λ place on. subst (StartElsewhere (IsOn place)) (sym (drop_all n (step ∷ []) (omega arith))) tt
+alone_ends (Ok n) (step ∷ next ∷ steps) apart some = λ place on. absurd (apart (omega arith) place on)
+alone_ends (Err error) steps apart some = tt
+
+-- it is a visit, also if the first two steps are on different features
+pub alone_visits : {E : Type 0} (result : Result ℕ E) (steps : List Step) → IfOk result (λ n. (layer : ℕ) → AllByRecursion (IsInFeatureOf layer) (take 1 steps) → IsVisit layer n steps)
+    → IfOk result (λ n. (layer : ℕ) → AllByRecursion (IsInFeatureOf layer) (take 1 steps) → item_at layer steps 0 ≢ item_at layer steps 1 → IsVisit layer n steps)
+alone_visits (Ok n) steps visits = λ layer first apart. visits layer first
+alone_visits (Err error) steps visits = tt
 
 -- ---- the first step alone
 

@@ -1,6 +1,7 @@
 -- A change that is under way, and steps of it that are made on features of one layer.
-use Rattle.std.specs.Prelude.{◌≡◌, ℕ, ◌<◌, ◌≤◌, List, ◌++◌, length, map, reverse, take, drop, Result, Ok, Err, Some, slice_get, IfOk}
-use Rattle.std.specs.Option.{IsSomeAnd}
+use Rattle.std.specs.Prelude.{◌≡◌, ◌≢◌, ◌⊎◌, ℕ, ◌+◌, ◌-◌, ◌<◌, ◌≤◌, ◌==◌, List, ◌++◌, length, map, reverse, take, drop, Result, Ok, Err, Option, Some, None, slice_get, if◌then◌else◌, IfOk}
+use Rattle.std.specs.List.{AllByRecursion}
+use Rattle.std.specs.Option.{IsSomeAnd, option_and_then}
 use Rattle.mvt_document.specs.Held.{Held}
 use Rattle.mvt_document.specs.Plain as plain
 use Rattle.mvt_document.specs.Stands.{document_of}
@@ -44,6 +45,23 @@ abbrev pub IsInFeatureOf : ℕ → Step → Type 0
 IsInFeatureOf layer (InFeature other item index taken put) = other ≡ layer
 IsInFeatureOf layer step = ⊥
 
+-- the position of the feature of this layer whose fields the step is on; none where it is on another list, or moves an
+-- item
+abbrev pub item_in : ℕ → Step → Option ℕ
+item_in layer (InFeature other item index taken put) = if other == layer then Some item else None
+item_in layer step = None
+
+-- the same of the step at a position; none where there is no step
+abbrev pub item_at : ℕ → List Step → ℕ → Option ℕ
+item_at layer steps at = option_and_then (item_in layer) (slice_get steps at)
+
+-- the first `n` of the steps, and no others, are made in one visit to this layer: they are on features of it, no two in
+-- a row on the same one; the step after them is on none, or on the same feature as the last of them
+pub record IsVisit (layer n : ℕ) (steps : List Step) : Type 0 where
+  pub on : AllByRecursion (IsInFeatureOf layer) (take n steps)
+  pub apart : (at : ℕ) → at + 1 < n → item_at layer steps at ≢ item_at layer steps (at + 1)
+  pub ends : (item_at layer steps n ≡ None) ⊎ (item_at layer steps n ≡ item_at layer steps (n - 1))
+
 -- the layer that a step on the fields of a feature is in
 abbrev pub layer_in : Step → ℕ
 layer_in (InFeature layer item index taken put) = layer
@@ -66,9 +84,10 @@ pub record FitInLayer (layer : ℕ) (steps : List Step) (items : Held LayerItem)
 abbrev pub InEach : ℕ → Held LayerItem → Held LayerItem → (Document → Document → Type 0) → Type 0
 InEach layer items made holds = (document : Document) → held_items_at layer document ≡ Some items → holds document (change_held_items (λ _. made) layer document)
 
--- in each document whose layer at this position has these items, the first of the steps are made: one or more, or as
--- many as there were until memory ran out
+-- in each document whose layer at this position has these items, the first of the steps are made: one or more, which
+-- are those of one visit, or as many as there were until memory ran out
 pub record AdvancesIn (layer : ℕ) (items made : Held LayerItem) (result : Result ℕ ℕ) (steps new : List Step) : Type 0 where
   pub some : IfOk result (λ n. 0 < n)
+  pub visit : IfOk result (λ n. IsVisit layer n steps)
   pub within : steps_made result ≤ length steps
   pub made_there : InEach layer items made (Advances (steps_made result) steps new)

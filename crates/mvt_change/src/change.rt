@@ -1,6 +1,6 @@
 //! A place, a step and a change, as types.
 
-ghost use Rattle.std.specs.Prelude.{◌≡◌, false, map};
+ghost use Rattle.std.specs.Prelude.{◌≡◌, ◌+◌, false, length, map, vec_capacity};
 ghost use Rattle.mvt_change.specs.ChangeStands.{change_of, step_of};
 
 use mvt_document::{Field, Items, LayerItem, Put, TileItem};
@@ -61,6 +61,7 @@ impl Change {
     pub fn new(steps: Vec<Step>) -> Change
         ensures change { change_of result ≡ map step_of steps.items }
         ensures order { result.backwards ≡ false }
+        ensures room { length result.steps.items + result.steps.room ≡ vec_capacity steps }
     {
         Change {
             steps: Items::from_vec(steps),

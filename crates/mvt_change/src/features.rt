@@ -1,6 +1,6 @@
 //! Steps on features of one layer, carried out in one visit to that layer.
 
-ghost use Rattle.std.specs.Prelude.{◌≡◌, ℕ, ◌<◌, ◌≤◌, length, map, take, is_ok, if◌then◌else◌, is_some, slice_get, IfOk, IsTrue, OnErr, OnOk};
+ghost use Rattle.std.specs.Prelude.{◌≡◌, ℕ, ◌/◌, ◌<◌, ◌≤◌, length, map, take, is_ok, if◌then◌else◌, is_some, IfOk, OnErr, OnOk};
 ghost use Rattle.std.specs.List.{AllByRecursion};
 ghost use Rattle.std.specs.Option.{IsSomeAnd};
 ghost use Rattle.mvt_document.specs.Stands.{document_of};
@@ -9,7 +9,7 @@ ghost use Rattle.mvt_change.specs.Changes.{Fits};
 ghost use Rattle.mvt_change.specs.ChangeStands.{step_of};
 ghost use Rattle.mvt_change.specs.Room.{KeepsDocument, KeepsField};
 ghost use Rattle.mvt_change.specs.HeldChanges.{ExchangesFirst, HasHeldPart, IsTurned, TakesOut, exchanged, go_held_step};
-ghost use Rattle.mvt_change.specs.Underway.{Advances, AdvancesIn, FindsFields, FitInLayer, InEach, IsInFeatureOf, layer_in, steps_made};
+ghost use Rattle.mvt_change.specs.Underway.{Advances, AdvancesIn, FindsFields, FitInLayer, InEach, IsInFeatureOf, IsVisit, item_at, layer_in, steps_made};
 
 use crate::change::Step;
 use mvt_document::{Document, Field, LayerItem, Message, Put, change_fields_in};
@@ -27,6 +27,7 @@ pub(crate) fn visit_layer(
     requires some { 0 < length steps.old }
     requires fits { Fits (map step_of steps.old) (document_of document.old) }
     ensures some { IfOk result (λ n. 0 < n) }
+    ensures visit { IfOk result (λ n. IsVisit layer n steps.old) }
     ensures within { steps_made result ≤ length steps.old }
     ensures made { Advances (steps_made result) steps.old steps.new document.old document.new }
 {
@@ -56,7 +57,8 @@ fn flip_features(
     flipped
 }
 
-/// The same, one step after the other. After `few` steps the size of the items is no longer known.
+/// The same, one step after the other. Once `few` steps are made and another follows, the size of the items is given
+/// up; if `few` is 0, it never is.
 fn flip_each(
     items: &mut Message<LayerItem>,
     layer: usize,
@@ -85,7 +87,7 @@ fn flip_each(
 /// Which item of this layer the step at a position is on, if there is a step there and it is on a
 /// feature of this layer.
 fn item_of_step(steps: &[Step], layer: usize, at: usize) -> Option<usize>
-    ensures { IsTrue (is_some result) → IsSomeAnd (slice_get steps.now at) (IsInFeatureOf layer) }
+    ensures { result ≡ item_at layer steps.now at }
 {
     match steps.get(at)? {
         Step::InFeature {
@@ -97,8 +99,11 @@ fn item_of_step(steps: &[Step], layer: usize, at: usize) -> Option<usize>
     }
 }
 
-/// How many steps on features of the layer are few. If the steps do not reach half of the items, none are many.
-fn few_of(steps: &[Step], layer: usize, items: usize) -> usize {
+/// How many steps of a visit to a layer with so many items are few: a sixteenth of the items if the step at the
+/// position of half of them is on a feature of the layer, and otherwise all.
+fn few_of(steps: &[Step], layer: usize, items: usize) -> usize
+    ensures { result ≡ (if is_some (item_at layer steps.now (items / 2)) then items / 16 else length steps.now) }
+{
     match item_of_step(steps, layer, items / 2) {
         Some(_) => items / 16,
         None => steps.len(),

@@ -1,12 +1,12 @@
 //! The list at a place of a document: an item of it moves, some items change places with those of a
 //! step, or steps are carried out in one pass.
 
-ghost use Rattle.std.specs.Prelude.{◌<◌, ◌≤◌, length, map, take, is_ok, if◌then◌else◌, IfOk};
+ghost use Rattle.std.specs.Prelude.{◌<◌, ◌≤◌, length, map, take, drop, is_ok, if◌then◌else◌, IfOk};
 ghost use Rattle.std.specs.List.{AllByRecursion};
 ghost use Rattle.std.specs.Option.{IsSomeAnd};
 ghost use Rattle.mvt_document.specs.Stands.{document_of};
 ghost use Rattle.mvt_document.specs.HeldPlaces.{change_held_fields, change_held_items, held_fields_at, held_items_at};
-ghost use Rattle.mvt_splices.specs.Splices.{CarriesOut, FitRun};
+ghost use Rattle.mvt_splices.specs.Splices.{CarriesOut, FitRun, StartElsewhere};
 ghost use Rattle.mvt_change.specs.Changes.{Fits, OfTheFeature, OfTheLayer};
 ghost use Rattle.mvt_change.specs.ChangeStands.{place_of, step_of};
 ghost use Rattle.mvt_change.specs.Room.{KeepsDocument, KeepsField, KeepsLayerItem, KeepsList};
@@ -129,6 +129,7 @@ pub(crate) fn run_in_layer(
     requires first { AllByRecursion (IsOn (OfTheLayer layer)) (take 1 steps.old) }
     requires fits { Fits (map step_of steps.old) (document_of document.old) }
     ensures some { IfOk result (λ n. 0 < n) }
+    ensures ends { IfOk result (λ n. StartElsewhere (IsOn (OfTheLayer layer)) (drop n steps.old)) }
     ensures within { carried_out result ≤ length steps.old }
     ensures made { Advances (carried_out result) steps.old steps.new document.old document.new }
 {
@@ -156,6 +157,7 @@ pub(crate) fn run_in_feature(
     requires first { AllByRecursion (IsOn (OfTheFeature layer item)) (take 1 steps.old) }
     requires fits { Fits (map step_of steps.old) (document_of document.old) }
     ensures some { IfOk result (λ n. 0 < n) }
+    ensures ends { IfOk result (λ n. StartElsewhere (IsOn (OfTheFeature layer item)) (drop n steps.old)) }
     ensures within { carried_out result ≤ length steps.old }
     ensures made { Advances (carried_out result) steps.old steps.new document.old document.new }
 {

@@ -1,12 +1,13 @@
 //! Consecutive steps on one list: as splices of their list, and carried out in one pass.
 
-ghost use Rattle.std.specs.Prelude.{◌≡◌, ◌<◌, ◌≤◌, ◌↔◌, None, length, map, option_map, take, IfOk, IfSome, IsTrue};
+ghost use Rattle.std.specs.Prelude.{◌≡◌, ◌≢◌, ℕ, ◌<◌, ◌≤◌, ◌↔◌, None, length, map, option_map, take, drop, IfOk, IfSome, IsTrue};
 ghost use Rattle.std.specs.List.{AllByRecursion};
 ghost use Rattle.mvt_document.specs.Stands.{document_of};
+ghost use Rattle.mvt_splices.specs.Splices.{StartElsewhere};
 ghost use Rattle.mvt_change.specs.Changes.{Fits, OfTheTile, Place as PlainPlace};
 ghost use Rattle.mvt_change.specs.ChangeStands.{action_of, place_of, spliced_place, step_of};
 ghost use Rattle.mvt_change.specs.Runs.{IsOn};
-ghost use Rattle.mvt_change.specs.Underway.{Advances, carried_out, steps_made};
+ghost use Rattle.mvt_change.specs.Underway.{Advances, IsInFeatureOf, IsVisit, carried_out, item_at, steps_made};
 
 use crate::change::{Place, Step};
 use crate::features::visit_layer;
@@ -246,7 +247,8 @@ fn list_of_run(steps: &[Step]) -> Option<Place>
 
 /// Carries out the first steps, and turns each into the step that leads back: those on one list in one
 /// pass over it, and those on features of one layer in one visit to their layer. Returns their number,
-/// as an `Err` if memory ran out at the next.
+/// as an `Err` if memory ran out: in a visit, or at a step alone, at the next; in a pass, at any of its
+/// steps, and the number is 0, since those before it are taken back.
 pub(crate) fn flip_first(
     alloc: Global,
     document: &mut Document,
@@ -255,6 +257,8 @@ pub(crate) fn flip_first(
     requires some { 0 < length steps.old }
     requires fits { Fits (map step_of steps.old) (document_of document.old) }
     ensures some { IfOk result (λ n. 0 < n) }
+    ensures run { IfOk result (λ n. (place : PlainPlace) → AllByRecursion (IsOn place) (take 2 steps.old) → StartElsewhere (IsOn place) (drop n steps.old)) }
+    ensures visit { IfOk result (λ n. (layer : ℕ) → AllByRecursion (IsInFeatureOf layer) (take 1 steps.old) → item_at layer steps.old 0 ≢ item_at layer steps.old 1 → IsVisit layer n steps.old) }
     ensures within { steps_made result ≤ length steps.old }
     ensures made { Advances (steps_made result) steps.old steps.new document.old document.new }
 {
@@ -279,6 +283,7 @@ fn flip_run(
     requires first { AllByRecursion (IsOn (place_of place)) (take 1 steps.old) }
     requires fits { Fits (map step_of steps.old) (document_of document.old) }
     ensures some { IfOk result (λ n. 0 < n) }
+    ensures ends { IfOk result (λ n. StartElsewhere (IsOn (place_of place)) (drop n steps.old)) }
     ensures within { carried_out result ≤ length steps.old }
     ensures made { Advances (carried_out result) steps.old steps.new document.old document.new }
 {
@@ -294,6 +299,7 @@ fn flip_alone(document: &mut Document, steps: &mut [Step]) -> Result<usize, usiz
     requires some { 0 < length steps.old }
     requires fits { Fits (map step_of steps.old) (document_of document.old) }
     ensures some { IfOk result (λ n. 0 < n) }
+    ensures visit { IfOk result (λ n. (layer : ℕ) → AllByRecursion (IsInFeatureOf layer) (take 1 steps.old) → IsVisit layer n steps.old) }
     ensures within { steps_made result ≤ length steps.old }
     ensures made { Advances (steps_made result) steps.old steps.new document.old document.new }
 {
@@ -307,7 +313,7 @@ fn flip_alone(document: &mut Document, steps: &mut [Step]) -> Result<usize, usiz
 fn flip_one(document: &mut Document, steps: &mut [Step]) -> Result<usize, usize>
     requires some { 0 < length steps.old }
     requires fits { Fits (map step_of steps.old) (document_of document.old) }
-    ensures some { IfOk result (λ n. 0 < n) }
+    ensures one { IfOk result (λ n. n ≡ 1) }
     ensures within { steps_made result ≤ length steps.old }
     ensures made { Advances (steps_made result) steps.old steps.new document.old document.new }
 {
@@ -328,6 +334,7 @@ pub(crate) fn run_in_tile(
     requires first { AllByRecursion (IsOn OfTheTile) (take 1 steps.old) }
     requires fits { Fits (map step_of steps.old) (document_of document.old) }
     ensures some { IfOk result (λ n. 0 < n) }
+    ensures ends { IfOk result (λ n. StartElsewhere (IsOn OfTheTile) (drop n steps.old)) }
     ensures within { carried_out result ≤ length steps.old }
     ensures made { Advances (carried_out result) steps.old steps.new document.old document.new }
 {

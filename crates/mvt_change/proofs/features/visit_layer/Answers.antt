@@ -22,3 +22,8 @@ pub returns-clause-made : goal.returns-clause-made
 returns-clause-made c =
     (advanced_there c.args.layer c.change_items.result c.args.steps.now c.change_items.new.beside c.args.document.now c.change_items.new.self
     (made_there _ _ _ _ _ _ _ c.change_items.ensures (λ x y r v w. AdvancesIn c.args.layer x v r y w) (λ x y r v w met. met))).2
+
+pub returns-clause-visit : goal.returns-clause-visit
+returns-clause-visit c =
+    (advanced_there c.args.layer c.change_items.result c.args.steps.now c.change_items.new.beside c.args.document.now c.change_items.new.self
+    (made_there _ _ _ _ _ _ _ c.change_items.ensures (λ x y r v w. AdvancesIn c.args.layer x v r y w) (λ x y r v w met. met))).3

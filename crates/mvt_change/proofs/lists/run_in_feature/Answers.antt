@@ -29,3 +29,9 @@ returns-clause-made c =
     let place = OfTheFeature c.args.layer c.args.item in
     (run_advanced place c.args.steps.now c.change_fields.new.beside c.args.document.now c.change_fields.new.self c.requires.fits c.change_fields.result c.requires.some c.requires.first
     (made_there _ _ _ _ _ _ _ c.change_fields.ensures (λ x y r v w. CarriesOut (IsOn place) feature_splice turned_in_feature IsRoomierStep r y w x v) (λ x y r v w met. met))).2
+
+pub returns-clause-ends : goal.returns-clause-ends
+returns-clause-ends c =
+    let place = OfTheFeature c.args.layer c.args.item in
+    (run_advanced place c.args.steps.now c.change_fields.new.beside c.args.document.now c.change_fields.new.self c.requires.fits c.change_fields.result c.requires.some c.requires.first
+    (made_there _ _ _ _ _ _ _ c.change_fields.ensures (λ x y r v w. CarriesOut (IsOn place) feature_splice turned_in_feature IsRoomierStep r y w x v) (λ x y r v w met. met))).3

@@ -29,3 +29,9 @@ returns-clause-made c =
     let place = OfTheLayer c.args.layer in
     (run_advanced place c.args.steps.now c.change_items.new.beside c.args.document.now c.change_items.new.self c.requires.fits c.change_items.result c.requires.some c.requires.first
     (made_there _ _ _ _ _ _ _ c.change_items.ensures (λ x y r v w. CarriesOut (IsOn place) layer_splice turned_in_layer IsRoomierStep r y w x v) (λ x y r v w met. met))).2
+
+pub returns-clause-ends : goal.returns-clause-ends
+returns-clause-ends c =
+    let place = OfTheLayer c.args.layer in
+    (run_advanced place c.args.steps.now c.change_items.new.beside c.args.document.now c.change_items.new.self c.requires.fits c.change_items.result c.requires.some c.requires.first
+    (made_there _ _ _ _ _ _ _ c.change_items.ensures (λ x y r v w. CarriesOut (IsOn place) layer_splice turned_in_layer IsRoomierStep r y w x v) (λ x y r v w met. met))).3

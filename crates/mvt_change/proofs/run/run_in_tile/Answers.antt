@@ -20,3 +20,8 @@ pub returns-clause-made : goal.returns-clause-made
 returns-clause-made c =
     let list = c.splice_message.new.list in
     (run_advanced OfTheTile c.args.steps.now c.splice_message.new.steps c.args.document.now (record { items = list }) c.requires.fits c.splice_message.result c.requires.some c.requires.first (list, c.splice_message.ensures, refl)).2
+
+pub returns-clause-ends : goal.returns-clause-ends
+returns-clause-ends c =
+    let list = c.splice_message.new.list in
+    (run_advanced OfTheTile c.args.steps.now c.splice_message.new.steps c.args.document.now (record { items = list }) c.requires.fits c.splice_message.result c.requires.some c.requires.first (list, c.splice_message.ensures, refl)).3
