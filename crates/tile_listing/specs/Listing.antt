@@ -1,5 +1,5 @@
 -- What a listing shows of a tile, of a layer and of a feature. The forms of its lines are a choice of this project.
-use Rattle.std.specs.Prelude.{◌≡◌, ◌⊎◌, ℕ, ◌==◌, List, [], ◌∷◌, ◌++◌, Option, Result, Ok, Err, codes, decimal, length, map, slice_get, if◌then◌else◌}
+use Rattle.std.specs.Prelude.{◌≡◌, ◌⊎◌, ℕ, ◌==◌, List, [], ◌∷◌, ◌++◌, Option, Result, Ok, Err, IsOk, codes, decimal, length, map, slice_get, if◌then◌else◌}
 use Rattle.std.specs.List.{enumerate_from, find, flat_map, join_with_byte}
 use Rattle.std.specs.Option.{ok_or, option_map_or}
 use Rattle.mvt_document.specs.Held.{Held}
@@ -141,7 +141,8 @@ joined_lines lines = flat_map with_feed lines
 unfoldable pub listed : What → Document → Result (List ℕ) Refusal
 listed what document = shown what document >>= λ lines. Ok (joined_lines lines)
 
--- a listing is answered as it is defined, or out of memory, and no other refusal, is answered in its place
+-- a listing is answered as it is defined; or out of memory, and no other refusal, is answered in place of its lines, and
+-- never in place of a refusal
 abbrev pub Shows : What → Document → Result (Held ℕ) Refusal → Type 0
 Shows what document (Ok lines) = listed what document ≡ Ok lines.items
-Shows what document (Err refusal) = (refusal ≡ NoMemory) ⊎ (listed what document ≡ Err refusal)
+Shows what document (Err refusal) = ((refusal ≡ NoMemory) × IsOk (listed what document)) ⊎ (listed what document ≡ Err refusal)

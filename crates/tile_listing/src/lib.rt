@@ -5,7 +5,8 @@
 //!   attributes and its geometry. Names are shown as texts, values by type and value or else as
 //!   their bytes, geometries as points. Where attributes or a geometry cannot be read, a line says
 //!   so. A listing is just these lines, or is refused because no layer or feature is selected, or
-//!   several are. Only out of memory may be answered instead: `listing`.
+//!   several are. Only in place of the lines may out of memory be answered, never in place of a
+//!   refusal: `listing`.
 #![tactic(auto)]
 
 mod attributes;

@@ -16,7 +16,8 @@ use mvt_select::{FoundFeature, FoundLayer, Refusal, find_feature, find_layer};
 use std::alloc::Global;
 use tile_arguments::What;
 
-/// The lines that show what is asked for, each with its line feed.
+/// The lines that show what is asked for, each with its line feed. To select takes no memory, so
+/// only a listing that is not refused may be out of memory.
 pub fn listing(alloc: Global, document: &Document, what: &What) -> Result<Items<u8>, Refusal>
     ensures { Shows (what_of what.now) (document_of document.now) result }
 {
