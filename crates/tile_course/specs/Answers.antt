@@ -1,9 +1,10 @@
 -- How a session answers a request.
-use Rattle.std.specs.Prelude.{◌≡◌, ◌⊎◌, ℕ, Result, Ok, Err, IsOk}
+use Rattle.std.specs.Prelude.{◌≡◌, ◌⊎◌, ℕ, ◌<◌, ◌≤◌, None, length, IsSomeAnd, Result, Ok, Err, IsOk}
 use Rattle.mvt_document.specs.Held.{Held}
-use Rattle.mvt_meaning.specs.Requests.{Edit, TakeMark, GoBack, Begin, Cancel}
-use Rattle.tile_arguments.specs.Request.{Request, OnHistory, Lists}
+use Rattle.mvt_meaning.specs.Requests.{Edit, SetMark, TakeMark, GoBack, Begin, End, Cancel}
+use Rattle.tile_arguments.specs.Request.{Request, OnHistory, ListMarks}
 use Rattle.mvt_history_steps.specs.History.{History}
+use Rattle.mvt_history_steps.specs.Marks.{point_of}
 use Rattle.mvt_history_steps.specs.Session.{StandsFor, StopsAt, StopsWithin}
 use Rattle.mvt_history_steps.specs.Standing.{Standing}
 use Rattle.mvt_history_steps.specs.declared.error.HistoryError.TheVariants.{Stopped}
@@ -12,16 +13,19 @@ use Rattle.tile_course.specs.declared.refused.Refused.{Refused}
 use Rattle.tile_course.specs.declared.refused.Refused.TheVariants as refused
 use Rattle.tile_course.specs.Answering.{carried_out}
 
--- the request may be refused with 60, out of memory: not one that takes no memory (to remove a mark, to open a step),
--- nor one that is stopped instead (to go back, to cancel); any other one, except for a command and a listing, only
--- where it is accepted with all memory
+-- the request may be refused with 60, out of memory: not one that takes no memory (to mark the present point by a name
+-- that is marked already, to remove a mark, to open a step, to end one of fewer than two commands, to list no marks), nor
+-- one that is stopped instead (to go back, to cancel); any other one, except for a command, only where it is accepted
+-- with all memory
 abbrev pub NeedsMemory : Request → History → Type 0
 NeedsMemory (OnHistory (Edit command)) history = Unit {0}
+NeedsMemory (OnHistory (SetMark name)) history = IsOk (carried_out (OnHistory (SetMark name)) history) × (point_of name history.marks ≡ None)
 NeedsMemory (OnHistory (TakeMark name)) history = ⊥
 NeedsMemory (OnHistory (GoBack name)) history = ⊥
 NeedsMemory (OnHistory Begin) history = ⊥
+NeedsMemory (OnHistory End) history = IsSomeAnd history.group (λ commands. 2 ≤ length commands)
 NeedsMemory (OnHistory Cancel) history = ⊥
-NeedsMemory (Lists what) history = Unit {0}
+NeedsMemory ListMarks history = 0 < length history.marks
 NeedsMemory request history = IsOk (carried_out request history)
 
 -- the request is to go back or to cancel, and may be stopped with `taken` steps, or commands, taken, where the history

@@ -8,10 +8,11 @@
 //!   a script come to as they are read.
 //! - Private `carry_out_request` is how a session answers a request: it is carried out, or refused,
 //!   as the definition says, with the lines that the definition says (`answer`). Only out of memory
-//!   may be answered instead: as 60, but not to `unmark`, `back`, `begin` and `cancel`
-//!   (`NeedsMemory`); and as a stop of `back` and `cancel`, which says how many steps, or commands,
-//!   were taken (`MayStop`). After every refusal but a stop the session holds what it held before
-//!   (`err`).
+//!   may be answered instead: as 60, but not to `unmark`, `back`, `begin` and `cancel`, to a `mark`
+//!   of a name that is marked already, to an `end` of a step of fewer than two commands, to `marks`
+//!   where there are none, or, but for a command, to what would be refused (`NeedsMemory`); and as a
+//!   stop of `back` and `cancel`, which says how many steps, or commands, were taken (`MayStop`).
+//!   After every refusal but a stop the session holds what it held before (`err`).
 #![tactic(auto)]
 
 mod answer;

@@ -1,6 +1,6 @@
 //! The lines of the marks, of the history and of the size.
 
-ghost use Rattle.std.specs.Prelude.{◌≡◌, ◌++◌, IfOk, IfErr, OnOk};
+ghost use Rattle.std.specs.Prelude.{◌≡◌, ◌<◌, ◌++◌, IfOk, IfErr, IsErr, OnOk, length};
 ghost use Rattle.mvt_document.specs.Stands.{document_of};
 ghost use Rattle.mvt_history_steps.specs.History.{History};
 ghost use Rattle.mvt_history_steps.specs.Session.{StandsFor};
@@ -14,11 +14,12 @@ use mvt_wire::size;
 use std::alloc::{AllocError, Global};
 use tile_text::{put_decimal, put_signed_decimal, put_text};
 
-/// The line of each mark.
+/// The line of each mark. Where there is none, no memory is taken.
 pub(crate) fn mark_lines(alloc: Global, session: &Session) -> Result<Items<u8>, Refusal>
     ensures lines { (history : History) → StandsFor session.now history →
         IfOk result (λ lines. lines.items ≡ mark_lines history) }
     ensures out_of_memory { IfErr result (λ refusal. refusal ≡ NoMemory) }
+    ensures some_marked { IsErr result → 0 < length session.now.marks }
 {
     let mut lines = Vec::new(alloc);
     for index in 0..session.mark_count() {
