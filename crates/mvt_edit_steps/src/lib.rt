@@ -20,8 +20,8 @@
 //!   that are some bytes, which go or get another value: `named_keys`, `name_keys`,
 //!   `decide_or_refuse`. Which fields are tags: `is_tags`. The steps of such a feature, and how many
 //!   bytes its fields take then (`size`): `renumber_feature`.
-//! - After an `Err` a list that was borrowed for steps, decisions or names is left anyhow: part of
-//!   what was to be put in it may be there, and no clause says what. The commands drop it.
+//! - After an `Err` a list that was borrowed for steps, decisions or names may hold a part of what was
+//!   to be added to it, and no clause says which. The commands drop it.
 //! - The definition `Prepares` says what it is that a change carries a command out, for all
 //!   commands.
 //! - Conditions: the step fits the document (`one_step_within_limit`); the tag is that of a VARINT
