@@ -42,8 +42,8 @@ struct StoredId {
     low: u32,
 }
 
-/// A feature of a layer, in four words. Its id is kept, unless it takes more than five bytes, so that a feature is
-/// found by its id without a look at the fields of any. Contracts see the parts that it was made of.
+/// A feature of a layer, in four words. An id below 2^40 - 2 is kept, so that a feature is found by its id without
+/// a look at the fields of any. Contracts see the parts that it was made of.
 #[derive(Drop)]
 pub struct Feature {
     tag: MessageTag,

@@ -26,7 +26,7 @@ pub trait Item: Measured {
     fn has_id(&self) -> bool
         ensures { result ≡ has_id self.now };
 
-    /// The hash of its id, or 0 if it has none. Where none is kept of items of this kind, there is nothing.
+    /// The hash of its id, or 0 if it has none; `None` where items of this kind never have ids.
     fn id_hash(&self) -> Option<u32>
         ensures { IfSome result (λ hash. hash ≡ id_hash self.now) }
     {
