@@ -1,5 +1,5 @@
 -- No line is refused as out of memory by its definition.
-use Rattle.std.proofs.Common.{ℕ, Bool, true, false, not, List, [], ◌∷◌, ◌++◌, length, map, Option, Some, None, Result, Ok, Err}
+use Rattle.std.proofs.Common.{◌≡◌, ℕ, Bool, true, false, not, List, [], ◌∷◌, ◌++◌, length, map, Option, Some, None, Result, Ok, Err, subst}
 use Rattle.std.specs.Prelude.{codes, nat_lt, ok_or, if◌then◌else◌}
 use Rattle.std.specs.List.{AllByRecursion}
 use Rattle.std.specs.Map.{lookup}
@@ -7,12 +7,14 @@ use Rattle.std.specs.Option.{option_map_or}
 use Rattle.std.specs.Str.{bytes_eq, is_utf8}
 use Rattle.tile_lines.specs.Words.{Word, Bare, Quoted, words_of}
 use Rattle.tile_arguments.specs.Arguments.{text_of, texts_of, number_in, distance_of, layer_of, layers_of, feature_of, geometry_of, value_of}
-use Rattle.tile_arguments.proofs.Refusals.{then_other, text_other, texts_other, number_in_other, distance_other, layer_other, layers_other, feature_other, geometry_other, value_other}
+use Rattle.tile_arguments.proofs.Refusals.{never_memory, then_other, text_other, texts_other, number_in_other, distance_other, layer_other, layers_other, feature_other, geometry_other, value_other}
 use Rattle.mvt_meaning.specs.Requests.{HistoryRequest}
 use Rattle.tile_arguments.specs.Request.{Request, OnHistory}
+use Rattle.tile_arguments.specs.RequestStands.{request_of}
+use Rattle.tile_arguments.specs.declared.request.Request as program
 use Rattle.tile_script.specs.Line.{is_remark, requests_alone, requests_by_name, alone_of, name_of, list_of, requests, request_by, asked_by, request_in, answer_to}
 use Rattle.tile_script.specs.Commands.{chosen_of, two_texts_of, layers_alone_of, rename_layer_of, move_layer_of, drop_layer_of, keep_layers_of, insert_feature_of, move_feature_of, drop_feature_of, set_id_of, clear_id_of, set_of, unset_of, rename_key_of, exclude_of, exclude_all_of, shift_of, set_geometry_of, compact_keys_of, compact_values_of, compact_of, commands, read_by, command_by}
-use Rattle.tile_lines.specs.Answers.{◌>>=◌}
+use Rattle.tile_lines.specs.Answers.{◌>>=◌, GivesAlways}
 use Rattle.tile_lines.specs.declared.parse_error.ParseError.{ParseError}
 use Rattle.tile_lines.specs.declared.parse_error.ParseError.TheVariants as parse
 use Rattle.mvt_meaning.proofs.Others.{Other, either}
@@ -212,6 +214,11 @@ alone_other : (request : Request) (arguments : List Word) → Other parse.NoMemo
 unfolding alone_of
 alone_other request [] = tt
 alone_other request (more ∷ others) = λ e. cc
+
+-- the answer to a word that is a request by itself is never out of memory
+pub never_alone : (answer : Result program.Request ParseError) (request : Request) (arguments : List Word) → GivesAlways request_of answer (alone_of request arguments) → answer ≡ Err parse.NoMemory → ⊥
+never_alone answer request arguments gives memory =
+    never_memory (alone_of request arguments) (alone_other request arguments) (subst (λ given. GivesAlways request_of given (alone_of request arguments)) memory gives)
 
 name_other : (arguments : List Word) → Other parse.NoMemory (name_of arguments)
 unfolding name_of

@@ -4,7 +4,7 @@ ghost use Rattle.std.specs.Prelude.{◌≤◌, length, map};
 ghost use Rattle.std.specs.Result.{IsErrOf};
 ghost use Rattle.tile_arguments.specs.RequestStands.{request_of};
 ghost use Rattle.tile_script.specs.Line.{alone_of, name_of, list_of, request_by, asked_by};
-ghost use Rattle.tile_lines.specs.Answers.{Gives};
+ghost use Rattle.tile_lines.specs.Answers.{Gives, GivesAlways};
 ghost use Rattle.tile_lines.specs.WordStands.{word_of};
 
 use crate::commands::{chosen, command, is};
@@ -26,7 +26,7 @@ pub(crate) fn request(alloc: Global, words: &[Word<'_>]) -> Result<Request, Pars
 }
 
 /// The request that begins with this word, with its arguments.
-#[tactic(auto, unfolding(crate::specs::Line::request_by))]
+#[tactic(auto, unfolding(crate::specs::Line::request_by), using(crate::proofs::ParseRefusals::never_alone))]
 fn named(alloc: Global, name: &[u8], arguments: &[Word<'_>]) -> Result<Request, ParseError>
     ensures answer { Gives request_of result (request_by name.now (map word_of arguments.now)) }
     ensures no_memory { IsErrOf result ParseError.NoMemory → 1 ≤ length arguments.now }
@@ -63,8 +63,7 @@ fn named(alloc: Global, name: &[u8], arguments: &[Word<'_>]) -> Result<Request, 
 /// The request, where it has no arguments.
 #[tactic(auto, unfolding(crate::specs::Line::alone_of))]
 fn alone(request: Request, arguments: &[Word<'_>]) -> Result<Request, ParseError>
-    ensures answer { Gives request_of result (alone_of (request_of request) (map word_of arguments.now)) }
-    ensures no_memory { IsErrOf result ParseError.NoMemory → 1 ≤ length arguments.now }
+    ensures { GivesAlways request_of result (alone_of (request_of request) (map word_of arguments.now)) }
 {
     arguments
         .is_empty()
