@@ -2,10 +2,11 @@
 //!
 //! - For each of the nineteen commands and every document: a command that is not refused is given the
 //!   change that turns the document into exactly what the command makes of it by its definition; a
-//!   refused one is given the first of its refusals. Only out of memory may come in place of either.
-//!   The change fits the document, so `flip` carries it out; it holds no more bytes than the command
-//!   puts in, what leads back no more than the command takes out, and its steps are at most one plus
-//!   half as many as these bytes together. The document is not touched: `prepare`.
+//!   refused one is given the first of its refusals. Only out of memory may come in place of either,
+//!   and only where the command asks for memory (`AsksForMemory`). The change fits the document, so
+//!   `flip` carries it out; it holds no more bytes than the command puts in, what leads back no more
+//!   than the command takes out, and its steps are at most one plus half as many as these bytes
+//!   together. The document is not touched: `prepare`.
 #![tactic(auto)]
 
 mod commands;

@@ -18,11 +18,13 @@ use Rattle.mvt_change.proofs.Resized.{items_there}
 use Rattle.mvt_meaning.specs.Command.{LayerChoice, RenameKey}
 use Rattle.mvt_meaning.specs.Fields.{with_content, with_text}
 use Rattle.mvt_meaning.specs.Meaning.{◌>>=◌, after, applied, change_layer, has_key, items_of, refuse_if}
+use Rattle.mvt_meaning.specs.Memory.{AsksForMemory}
 use Rattle.mvt_meaning.specs.Selection.{layer_positions, selected}
 use Rattle.mvt_meaning.specs.Tagging.{is_key, renamed_keys}
 use Rattle.mvt_meaning.specs.Weights.{of_selected, put_by, taken_by, weigh}
 use Rattle.mvt_meaning.specs.declared.refusal.Refusal.{Refusal}
 use Rattle.mvt_meaning.specs.declared.refusal.Refusal.TheVariants.{KeyTaken, NoKey, TooLarge}
+use Rattle.mvt_meaning.proofs.Asking.{asks_by}
 use Rattle.mvt_meaning.proofs.Found.{change_layer_found, items_at_found, items_changed, items_of_found}
 use Rattle.mvt_renumber.specs.Fates.{changes, left_of_fate}
 use Rattle.mvt_edit_steps.specs.Fates.{splices_of}
@@ -141,6 +143,10 @@ module _ (choice : LayerChoice) (old new : List ℕ) (document : Document) (ordi
   module _ (can : may_rename old new position layer.items document ≡ Ok tt) where
     made : applied (RenameKey choice old new) document ≡ Ok (change_layer (renamed_keys old new) ordinal document)
     made = checked ∙ ap (λ found. found >>= λ ok. Ok (change_layer (renamed_keys old new) ordinal document)) can
+
+    -- it is accepted
+    pub renaming_asks : AsksForMemory (RenameKey choice old new) document
+    renaming_asks = asks_by (RenameKey choice old new) document (change_layer (renamed_keys old new) ordinal document) made
 
     taken_keys : taken_by (RenameKey choice old new) document ≡ length (flat_map layer_item_bytes (filter (is_key old) layer.items))
     taken_keys =

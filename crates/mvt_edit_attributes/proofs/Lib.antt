@@ -1,3 +1,4 @@
+mod BothFound
 mod EntryOrdinals
 mod KeysNamed
 mod OneDiffers

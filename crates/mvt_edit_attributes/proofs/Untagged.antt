@@ -1,13 +1,12 @@
 -- The tags fields of each feature are removed.
-use Rattle.std.proofs.Common.{◌≡◌, ℕ, ◌≤◌, ◌/◌, ◌==◌, Bool, true, false, ◌||◌, cond, max, is_some, None, Ok, Err, List, [], ◌∷◌, ◌++◌, length, length-append, map, filter, refl, sym, ap, ◌∙◌, subst, arith}
+use Rattle.std.proofs.Common.{◌≡◌, ℕ, ◌≤◌, ◌/◌, ◌==◌, Bool, true, false, ◌||◌, cond, is_some, None, Ok, Err, List, [], ◌∷◌, ◌++◌, length, length-append, map, filter, refl, sym, ap, ◌∙◌, subst, arith}
 use Rattle.std.proofs.lemmas.List.Folds.{flat_map-map}
 use Rattle.std.specs.List.{AllByRecursion, flat_map}
 use Rattle.mvt_document.specs.Plain as plain
 use Rattle.mvt_document.specs.Opens.{IsField}
 use Rattle.mvt_document.specs.Bodies.{body_of}
 use Rattle.mvt_document.specs.Stands.{document_of, field_of, layer_item_of, tile_item_of}
-use Rattle.mvt_document.specs.Wire.{body_bytes, delimited, field_bytes, minimal_width, spell}
-use Rattle.mvt_document.proofs.Spelling.{length-spell, minimal_width_some}
+use Rattle.mvt_document.specs.Wire.{body_bytes, field_bytes, spell}
 use Rattle.mvt_document.specs.declared.body.Body.{Body}
 use Rattle.mvt_document.specs.declared.body.Body.TheVariants.{Number, Eight, Four, Bytes, Group}
 use Rattle.mvt_document.specs.declared.document.Document.{Document}
@@ -23,9 +22,11 @@ use Rattle.mvt_layers.proofs.Placing.{found_items}
 use Rattle.mvt_change.specs.Changes.{Change}
 use Rattle.mvt_meaning.specs.Command.{LayersChoice, ExcludeAll}
 use Rattle.mvt_meaning.specs.Meaning.{applied}
+use Rattle.mvt_meaning.specs.Memory.{AsksForMemory}
 use Rattle.mvt_meaning.specs.Selection.{selected_layers}
 use Rattle.mvt_meaning.specs.Tagging.{is_tags, tags_fields, without_tags}
 use Rattle.mvt_meaning.specs.declared.refusal.Refusal.{Refusal}
+use Rattle.mvt_meaning.proofs.Asking.{asks_by}
 use Rattle.mvt_edit_steps.specs.Prepared.{IsPrepared}
 use Rattle.mvt_edit_steps.specs.Fates.{splices_of}
 use Rattle.mvt_edit_steps.proofs.CarriedOut.{put_all, taken_all}
@@ -122,6 +123,12 @@ untags choice document found change selects steps =
       takes = rw selects (omega arith);
       steps = rw selects (omega (arith, come.few_so, come.takes_so, come.puts_so, takes));
     })
+
+-- where layers are selected it is accepted
+pub untagging_asks : (choice : LayersChoice) (document : Document) (found : List (ℕ × (ℕ × plain.Layer))) → selected_layers choice (document_of document) ≡ Ok found → AsksForMemory (ExcludeAll choice) (document_of document)
+untagging_asks choice document found selects =
+    let made = layers_made (λ items. tags_go) (λ items. without_tags) choice (document_of document) found selects (layers_carry document.items.items) in
+    asks_by (ExcludeAll choice) (document_of document) made.made made.means
 
 pub no_layer_untagged : (choice : LayersChoice) (document : plain.Document) (refusal : Refusal) → selected_layers choice document ≡ Err refusal → applied (ExcludeAll choice) document ≡ Err refusal
 no_layer_untagged choice document refusal refused = none_made (λ items. tags_go) (λ items. without_tags) choice document refusal refused

@@ -22,11 +22,13 @@ use Rattle.mvt_meaning.specs.Command.{FeatureChoice, LayerChoice, SetGeometry}
 use Rattle.mvt_meaning.specs.Fields.{new_content}
 use Rattle.mvt_meaning.specs.Geometries.{is_geometry_field, is_kind, with_geometry, with_kind}
 use Rattle.mvt_meaning.specs.Meaning.{after, applied, change_feature, fields_of, geometry_refusal, within_limit}
+use Rattle.mvt_meaning.specs.Memory.{AsksForMemory}
 use Rattle.mvt_meaning.specs.Ordinals.{put_once}
 use Rattle.mvt_meaning.specs.Selection.{feature_positions, layer_positions, selected, selected_feature, selected_in}
 use Rattle.mvt_meaning.specs.Weights.{geometry_weight, of_selected, put_by, taken_by, weigh, weigh_last}
 use Rattle.mvt_meaning.specs.declared.refusal.Refusal.{Refusal}
 use Rattle.mvt_meaning.specs.declared.refusal.Refusal.TheVariants.{NoMemory, OutOfRange, TooLarge}
+use Rattle.mvt_meaning.proofs.Asking.{finds_feature}
 use Rattle.mvt_meaning.proofs.Found.{change_feature_found, fields_at_found, fields_changed, fields_of_found, selected_in_found}
 use Rattle.mvt_edit_steps.specs.Fates.{Splice}
 use Rattle.mvt_edit_steps.specs.Once.{once_splices}
@@ -58,9 +60,9 @@ module _ (choice : LayerChoice) (geometry : Geometry) (document : Document) (ord
         let outside : is_in_range geometry ≡ false = false_from_ne_true (is_in_range geometry) (λ short. far ((in_range-Decides geometry).0 short)) in
         rw (chosen, selected_here, outside) refl
 
-    pub drawing_refused : (error : EncodeError) → (error ≡ encode_errors.OutOfRange → ¬ IsInRange geometry) → (geometry_refusal error ≡ NoMemory) ⊎ (applied (SetGeometry choice feature geometry) document ≡ Err (geometry_refusal error))
+    pub drawing_refused : (error : EncodeError) → (error ≡ encode_errors.OutOfRange → ¬ IsInRange geometry) → ((geometry_refusal error ≡ NoMemory) × AsksForMemory (SetGeometry choice feature geometry) document) ⊎ (applied (SetGeometry choice feature geometry) document ≡ Err (geometry_refusal error))
     drawing_refused encode_errors.OutOfRange far = inr (far_refused (far refl))
-    drawing_refused encode_errors.NoMemory far = inl refl
+    drawing_refused encode_errors.NoMemory far = inl (refl, finds_feature choice document ordinal position layer chosen placed there feature selects selected_there)
 
     abbrev kinded : List Field → List Field
     kinded fields = with_kind (kind_number geometry.kind) fields

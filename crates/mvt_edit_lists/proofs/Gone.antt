@@ -12,6 +12,7 @@ use Rattle.mvt_meaning.specs.Command.{LayerChoice, FeatureChoice, DropLayer, Dro
 use Rattle.mvt_meaning.specs.Ordinals.{without}
 use Rattle.mvt_meaning.specs.Selection.{feature_positions, is_feature, is_layer, layer_positions, selected, selected_feature, selected_in}
 use Rattle.mvt_meaning.specs.Meaning.{applied, is_id, without_id}
+use Rattle.mvt_meaning.specs.Memory.{AsksForMemory}
 use Rattle.mvt_meaning.specs.declared.refusal.Refusal.{Refusal}
 use Rattle.mvt_meaning.proofs.Found.{change_feature_found, change_layer_found, fields_at_found, fields_of_found, filtered_found, from_nth_splits, items_at_found, items_of_found, selected_in_found}
 use Rattle.mvt_edit_steps.specs.Fates.{Splice, item_out}
@@ -48,6 +49,10 @@ one_out sits document items there position within = carried sits document items 
 
 -- ---- the item or the fields that a command removes
 
+-- where a layer is selected, the command that removes it is accepted, and so asks for memory
+pub layer_asks : (choice : LayerChoice) (document : Document) (ordinal : ℕ) → selected choice document ≡ Ok ordinal → AsksForMemory (DropLayer choice) document
+layer_asks choice document ordinal chosen = rw chosen refl
+
 module _ (choice : LayerChoice) (document : Document) (ordinal position : ℕ) (layer : Layer) (chosen : selected choice document ≡ Ok ordinal) (placed : slice_get (layer_positions document) ordinal ≡ Some position) (there : slice_get document position ≡ Some (OfLayer layer)) where
   -- where one step takes out the layer
   pub layer_goes : (change : Change) → change ≡ item_out OfTheTile position ∷ [] → IsPrepared (DropLayer choice) document change
@@ -64,50 +69,59 @@ module _ (choice : LayerChoice) (document : Document) (ordinal position : ℕ) (
         steps = omega arith;
       })
 
-  module _ (feature : FeatureChoice) (selects item : ℕ) (found : Feature) (selected_there : selected_feature feature layer ≡ Ok selects) (feature_placed : slice_get (feature_positions layer.items) selects ≡ Some item) (feature_there : slice_get layer.items item ≡ Some (OfFeature found)) where
+  -- where a feature is selected
+  module _ (feature : FeatureChoice) (selects : ℕ) (selected_there : selected_feature feature layer ≡ Ok selects) where
     selected_here : selected_in feature ordinal document ≡ Ok selects
     selected_here = selected_in_found document ordinal position layer placed there feature ∙ selected_there
 
-    -- where one step takes out the feature
-    pub feature_goes : (change : Change) → change ≡ item_out (OfTheLayer position) item ∷ [] → IsPrepared (DropFeature choice feature) document change
-    feature_goes change step =
-        let sits = in_the_layer position in
-        let at = items_at_found document ordinal position layer placed there in
-        let out = one_out sits document layer.items at item (get_within item layer.items (OfFeature found) feature_there) in
-        let puts = out.puts in
-        let rest = spliced_out item layer.items ∙ sym (from_nth_splits is_feature (λ rest. drop 1 rest) layer.items selects item feature_placed) in
-        let makes = out.makes ∙ makes_alike sits document layer.items at (without is_feature selects) (one item ∷ []) rest ∙ sym (change_layer_found document ordinal position layer placed there (without is_feature selects)) in
-        let same = ap (λ item. option_map_or (λ item. length (layer_item_bytes item)) item 0) (filtered_found is_feature layer.items selects item feature_placed) in
-        let takes = out.takes ∙ one_weighs layer_item_bytes item layer.items ∙ sym same in
-        let are = items_of_found document ordinal position layer placed there in
-        rw step (record {
-          fits = out.fits;
-          means = rw (chosen, selected_here) (ap Ok (sym makes));
-          puts = omega arith;
-          takes = rw (chosen, selected_here, are) (omega arith);
-          steps = omega arith;
-        })
+    -- the commands that remove it, or its id fields, are accepted, and so ask for memory
+    pub feature_asks : AsksForMemory (DropFeature choice feature) document
+    feature_asks = rw (chosen, selected_here) refl
 
-    -- where the steps take out the id fields
-    pub ids_go : (change : Change) → 2 * length (filter is_id found.fields) ≤ length (flat_map field_bytes (filter is_id found.fields)) → change ≡ map (in_feature_at position item) (out is_id found.fields) → IsPrepared (ClearId choice feature) document change
-    ids_go change heavy steps =
-        let sits = in_the_feature position item in
-        let splices = out is_id found.fields in
-        let cut = takes_out is_id found.fields in
-        let at = fields_at_found document ordinal position layer placed there selects item found feature_placed feature_there in
-        let are = fields_of_found document ordinal position layer placed there selects item found feature_placed feature_there in
-        let done = carried sits document found.fields at splices cut.there (subst (AllByRecursion IsField) (sym cut.puts) tt) in
-        let makes = done.makes ∙ makes_alike sits document found.fields at without_id splices cut.leaves ∙ sym (change_feature_found document ordinal position layer placed there selects item found feature_placed feature_there without_id) in
-        let few = cut.few in
-        let puts = done.puts ∙ ap (λ new. length (flat_map field_bytes new)) cut.puts in
-        let takes = done.takes ∙ ap (λ gone. length (flat_map field_bytes gone)) cut.takes in
-        rw steps (record {
-          fits = done.fits;
-          means = rw (chosen, selected_here) (ap Ok (sym makes));
-          puts = omega arith;
-          takes = rw (chosen, selected_here, are) (omega arith);
-          steps = rw (chosen, selected_here, are) (omega (arith, length-map splices (in_feature_at position item)));
-        })
+    pub ids_ask : AsksForMemory (ClearId choice feature) document
+    ids_ask = rw (chosen, selected_here) refl
+
+    module _ (item : ℕ) (found : Feature) (feature_placed : slice_get (feature_positions layer.items) selects ≡ Some item) (feature_there : slice_get layer.items item ≡ Some (OfFeature found)) where
+      -- where one step takes out the feature
+      pub feature_goes : (change : Change) → change ≡ item_out (OfTheLayer position) item ∷ [] → IsPrepared (DropFeature choice feature) document change
+      feature_goes change step =
+          let sits = in_the_layer position in
+          let at = items_at_found document ordinal position layer placed there in
+          let out = one_out sits document layer.items at item (get_within item layer.items (OfFeature found) feature_there) in
+          let puts = out.puts in
+          let rest = spliced_out item layer.items ∙ sym (from_nth_splits is_feature (λ rest. drop 1 rest) layer.items selects item feature_placed) in
+          let makes = out.makes ∙ makes_alike sits document layer.items at (without is_feature selects) (one item ∷ []) rest ∙ sym (change_layer_found document ordinal position layer placed there (without is_feature selects)) in
+          let same = ap (λ item. option_map_or (λ item. length (layer_item_bytes item)) item 0) (filtered_found is_feature layer.items selects item feature_placed) in
+          let takes = out.takes ∙ one_weighs layer_item_bytes item layer.items ∙ sym same in
+          let are = items_of_found document ordinal position layer placed there in
+          rw step (record {
+            fits = out.fits;
+            means = rw (chosen, selected_here) (ap Ok (sym makes));
+            puts = omega arith;
+            takes = rw (chosen, selected_here, are) (omega arith);
+            steps = omega arith;
+          })
+
+      -- where the steps take out the id fields
+      pub ids_go : (change : Change) → 2 * length (filter is_id found.fields) ≤ length (flat_map field_bytes (filter is_id found.fields)) → change ≡ map (in_feature_at position item) (out is_id found.fields) → IsPrepared (ClearId choice feature) document change
+      ids_go change heavy steps =
+          let sits = in_the_feature position item in
+          let splices = out is_id found.fields in
+          let cut = takes_out is_id found.fields in
+          let at = fields_at_found document ordinal position layer placed there selects item found feature_placed feature_there in
+          let are = fields_of_found document ordinal position layer placed there selects item found feature_placed feature_there in
+          let done = carried sits document found.fields at splices cut.there (subst (AllByRecursion IsField) (sym cut.puts) tt) in
+          let makes = done.makes ∙ makes_alike sits document found.fields at without_id splices cut.leaves ∙ sym (change_feature_found document ordinal position layer placed there selects item found feature_placed feature_there without_id) in
+          let few = cut.few in
+          let puts = done.puts ∙ ap (λ new. length (flat_map field_bytes new)) cut.puts in
+          let takes = done.takes ∙ ap (λ gone. length (flat_map field_bytes gone)) cut.takes in
+          rw steps (record {
+            fits = done.fits;
+            means = rw (chosen, selected_here) (ap Ok (sym makes));
+            puts = omega arith;
+            takes = rw (chosen, selected_here, are) (omega arith);
+            steps = rw (chosen, selected_here, are) (omega (arith, length-map splices (in_feature_at position item)));
+          })
 
   -- where no feature is selected
   module _ (feature : FeatureChoice) (refusal : Refusal) (refused : selected_feature feature layer ≡ Err refusal) where

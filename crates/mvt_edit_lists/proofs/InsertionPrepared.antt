@@ -20,6 +20,7 @@ use Rattle.mvt_document.specs.Places.{change_items}
 use Rattle.mvt_change.specs.Changes.{FitsStep, LayerStep, go_step}
 use Rattle.mvt_meaning.specs.Command.{InsertFeature, LayerChoice}
 use Rattle.mvt_meaning.specs.Meaning.{applied, feature_count, geometry_refusal, new_feature, within_limit}
+use Rattle.mvt_meaning.specs.Memory.{AsksForMemory}
 use Rattle.mvt_meaning.specs.Ordinals.{insert_nth}
 use Rattle.mvt_meaning.specs.Selection.{is_feature, layer_positions, selected}
 use Rattle.mvt_meaning.specs.declared.refusal.Refusal.TheVariants.{BadPlace, NoMemory, OutOfRange, TooLarge}
@@ -42,15 +43,19 @@ module _ (choice : LayerChoice) (index ordinal position : ℕ) (geometry : Geome
     inside =
         le-ltb (feature_count ordinal document) index (omega (arith, is_place.few, count_features layer.items, feature_count_found choice ordinal position document layer chosen placed there))
 
+    -- where the place is there, the command asks for memory
+    pub insertion_asks : AsksForMemory (InsertFeature choice index geometry) document
+    insertion_asks = rw (chosen, inside) refl
+
     pub insertion_out_of_range : ¬ IsInRange geometry → applied (InsertFeature choice index geometry) document ≡ Err OutOfRange
     insertion_out_of_range far =
         let outside : is_in_range geometry ≡ false = false_from_ne_true (is_in_range geometry) (λ short. far ((in_range-Decides geometry).0 short)) in
         rw (chosen, inside, outside) refl
 
     -- because memory ran out, or because it is out of range
-    pub insertion_refused : (error : EncodeError) → (error ≡ encode_errors.OutOfRange → ¬ IsInRange geometry) → (geometry_refusal error ≡ NoMemory) ⊎ (applied (InsertFeature choice index geometry) document ≡ Err (geometry_refusal error))
+    pub insertion_refused : (error : EncodeError) → (error ≡ encode_errors.OutOfRange → ¬ IsInRange geometry) → ((geometry_refusal error ≡ NoMemory) × AsksForMemory (InsertFeature choice index geometry) document) ⊎ (applied (InsertFeature choice index geometry) document ≡ Err (geometry_refusal error))
     insertion_refused encode_errors.OutOfRange far = inr (insertion_out_of_range (far refl))
-    insertion_refused encode_errors.NoMemory far = inl refl
+    insertion_refused encode_errors.NoMemory far = inl (refl, insertion_asks)
 
     can : CanSplice IsLayerItem place 0 (new_feature geometry ∷ []) layer.items
     can = record { within = omega (arith, is_place.within); valid_put = (new_feature_valid geometry, tt) }

@@ -9,10 +9,12 @@ use Rattle.mvt_document.specs.Lists.{CanMove}
 use Rattle.mvt_change.specs.Changes.{MoveStep, OfTheLayer, OfTheTile}
 use Rattle.mvt_meaning.specs.Command.{FeatureChoice, LayerChoice, MoveFeature, MoveLayer}
 use Rattle.mvt_meaning.specs.Meaning.{applied, feature_count, layer_count}
+use Rattle.mvt_meaning.specs.Memory.{AsksForMemory}
 use Rattle.mvt_meaning.specs.Ordinals.{count, move_nth, positions_of}
 use Rattle.mvt_meaning.specs.Selection.{feature_positions, is_feature, is_layer, layer_positions, selected, selected_feature}
 use Rattle.mvt_meaning.specs.declared.refusal.Refusal.{Refusal}
 use Rattle.mvt_meaning.specs.declared.refusal.Refusal.TheVariants.{BadPlace}
+use Rattle.mvt_meaning.proofs.Asking.{asks_by}
 use Rattle.mvt_meaning.proofs.Found.{change_items_same, change_layer_found, items_at_found, items_of_found, no_position_past, selected_in_found}
 use Rattle.mvt_meaning.proofs.Positions.{positions_within}
 use Rattle.mvt_meaning.proofs.Selecting.{position_within}
@@ -51,6 +53,11 @@ layer_moves choice index ordinal position to document chosen from there =
       steps = omega arith;
     }
 
+-- a move that is accepted asks for memory
+pub layer_move_asks : (choice : LayerChoice) (index ordinal position to : ℕ) (document : Document) → selected choice document ≡ Ok ordinal → slice_get (layer_positions document) ordinal ≡ Some position → slice_get (layer_positions document) index ≡ Some to → AsksForMemory (MoveLayer choice index) document
+layer_move_asks choice index ordinal position to document chosen from there =
+    asks_by (MoveLayer choice index) document _ (layer_moves choice index ordinal position to document chosen from there).means
+
 pub layer_past : (choice : LayerChoice) (index ordinal : ℕ) (document : Document) → selected choice document ≡ Ok ordinal → slice_get (layer_positions document) index ≡ None → applied (MoveLayer choice index) document ≡ Err BadPlace
 layer_past choice index ordinal document chosen past =
     let outside : nat_lt index (layer_count document) ≡ false = le-ltb index (layer_count document) (no_position_past layer_in 0 document index past) in
@@ -87,6 +94,11 @@ module _ (choice : LayerChoice) (ordinal position : ℕ) (document : Document) (
         takes = omega arith;
         steps = omega arith;
       }
+
+  -- a move that is accepted asks for memory
+  pub feature_move_asks : (feature : FeatureChoice) (index moving from to : ℕ) → selected_feature feature layer ≡ Ok moving → slice_get (feature_positions layer.items) moving ≡ Some from → slice_get (feature_positions layer.items) index ≡ Some to → AsksForMemory (MoveFeature choice feature index) document
+  feature_move_asks feature index moving from to selects_there at_from at_to =
+      asks_by (MoveFeature choice feature index) document _ (feature_moves feature index moving from to selects_there at_from at_to).means
 
   pub feature_past : (feature : FeatureChoice) (index moving : ℕ) → selected_feature feature layer ≡ Ok moving → slice_get (feature_positions layer.items) index ≡ None → applied (MoveFeature choice feature index) document ≡ Err BadPlace
   feature_past feature index moving selects_there past =

@@ -9,6 +9,7 @@ use Rattle.mvt_change.specs.Changes.{FeatureStep, FitsStep, LayerStep, Step, go_
 use Rattle.mvt_meaning.specs.Command.{FeatureChoice, LayerChoice, RenameLayer, SetId}
 use Rattle.mvt_meaning.specs.Selection.{feature_positions, layer_positions, selected, selected_feature, selected_in}
 use Rattle.mvt_meaning.specs.Meaning.{after, applied, change_feature, change_layer, fields_of, identified, is_id, is_name, is_taken, items_of, named_items, within_limit}
+use Rattle.mvt_meaning.specs.Memory.{AsksForMemory}
 use Rattle.mvt_meaning.specs.Weights.{of_selected, put_by, taken_by, weigh_last}
 use Rattle.mvt_meaning.specs.declared.refusal.Refusal.{Refusal}
 use Rattle.mvt_meaning.specs.declared.refusal.Refusal.TheVariants.{TooLarge}
@@ -23,6 +24,10 @@ use Rattle.mvt_edit_steps.proofs.OneStep.{Carries, carries_in_feature, carries_i
 module _ (choice : LayerChoice) (name : List ℕ) (document : Document) (ordinal : ℕ) (selects : selected choice document ≡ Ok ordinal) where
   renamed : is_taken name ordinal document ≡ false → applied (RenameLayer choice name) document ≡ within_limit (change_layer (named_items name) ordinal document)
   renamed free = rw (selects, free) refl
+
+  -- where the name is free, the command asks for memory
+  pub rename_asks : is_taken name ordinal document ≡ false → AsksForMemory (RenameLayer choice name) document
+  rename_asks free = rw (selects, free) refl
 
   module _ (free : is_taken name ordinal document ≡ false) (position : ℕ) (layer : Layer) (placed : slice_get (layer_positions document) ordinal ≡ Some position) (there : slice_get document position ≡ Some (OfLayer layer)) (step : Step) (puts : PutsLast IsLayerItem layer_item_bytes is_name (LayerStep position) layer.items (named_items name layer.items) step) where
     carries_name : Carries step document (change_layer (named_items name) ordinal document) (weigh_last layer_item_bytes is_name (named_items name layer.items)) (weigh_last layer_item_bytes is_name layer.items)

@@ -22,10 +22,12 @@ use Rattle.mvt_change.specs.Changes.{Change}
 use Rattle.mvt_meaning.specs.Command.{Command, LayersChoice}
 use Rattle.mvt_meaning.specs.Compaction.{compacted, is_any, is_key_used, is_value_used, new_ordinals}
 use Rattle.mvt_meaning.specs.Meaning.{applied, change_readable, refuse_first}
+use Rattle.mvt_meaning.specs.Memory.{AsksForMemory}
 use Rattle.mvt_meaning.specs.Selection.{selected_layers}
 use Rattle.mvt_meaning.specs.Tagging.{unreadable}
 use Rattle.mvt_meaning.specs.Weights.{compact_puts, compact_takes, layers_weight, put_by, taken_by}
 use Rattle.mvt_meaning.specs.declared.refusal.Refusal.{Refusal}
+use Rattle.mvt_meaning.proofs.Asking.{stands}
 use Rattle.mvt_meaning.proofs.Compaction.{new_ordinals_short}
 use Rattle.mvt_edit_steps.specs.Prepared.{IsPrepared}
 use Rattle.mvt_edit_steps.proofs.Come.{Carries, CarriesIn}
@@ -113,6 +115,12 @@ pub compacts : (pools : Pools) (choice : LayersChoice) (document : Document) (fo
 compacts Keys choice document found steps selects readable are = prepared is_key_used is_any (compaction Keys choice) choice document found steps refl refl refl selects readable are
 compacts Values choice document found steps selects readable are = prepared is_any is_value_used (compaction Values choice) choice document found steps refl refl refl selects readable are
 compacts Both choice document found steps selects readable are = prepared is_key_used is_value_used (compaction Both choice) choice document found steps refl refl refl selects readable are
+
+-- where layers are selected, memory is asked for
+pub compaction_asks : (pools : Pools) (choice : LayersChoice) (document : plain.Document) (found : List (ℕ × (ℕ × plain.Layer))) → selected_layers choice document ≡ Ok found → AsksForMemory (compaction pools choice) document
+compaction_asks Keys choice document found selects = stands (selected_layers choice document) found selects
+compaction_asks Values choice document found selects = stands (selected_layers choice document) found selects
+compaction_asks Both choice document found selects = stands (selected_layers choice document) found selects
 
 -- ---- what is refused
 

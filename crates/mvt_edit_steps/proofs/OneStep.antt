@@ -16,6 +16,7 @@ use Rattle.mvt_change.specs.ChangeStands.{change_of}
 use Rattle.mvt_change.specs.declared.change.Change.{Change}
 use Rattle.mvt_meaning.specs.Command.{Command}
 use Rattle.mvt_meaning.specs.Meaning.{applied}
+use Rattle.mvt_meaning.specs.Memory.{AsksForMemory}
 use Rattle.mvt_meaning.specs.Weights.{put_by, taken_by}
 use Rattle.mvt_meaning.specs.declared.refusal.Refusal.{Refusal}
 use Rattle.mvt_meaning.specs.declared.refusal.Refusal.TheVariants.{NoMemory, TooLarge}
@@ -42,10 +43,10 @@ prepared_by_one command document after step put taken carries means puts takes =
 }
 
 -- the change of the step if a file can hold what it makes, and otherwise the refusal
-pub prepared_within_limit : (command : Command) (document : Document) (step : Step) (result : Result Change Refusal) → IfOk result (λ change. change_of change ≡ step ∷ []) → IfOk result (λ change. length (bytes_of (go_step step document)) ≤ MAX_FILE) → IfErr result (λ refusal. (refusal ≡ NoMemory) ⊎ ((refusal ≡ TooLarge) × (MAX_FILE < length (bytes_of (go_step step document))))) → (length (bytes_of (go_step step document)) ≤ MAX_FILE → IsPrepared command document (step ∷ [])) → (MAX_FILE < length (bytes_of (go_step step document)) → applied command document ≡ Err TooLarge) → Prepares command document result
-prepared_within_limit command document step (Ok change) made within refused fits large = subst (IsPrepared command document) (sym made) (fits within)
-prepared_within_limit command document step (Err refusal) made within refused fits large =
-    elim refused [ inl out_of_memory ↦ inl out_of_memory | inr past ↦ inr (large past.1 ∙ ap (λ e. Err e) (sym past.0)) ]
+pub prepared_within_limit : (command : Command) (document : Document) (step : Step) (result : Result Change Refusal) → AsksForMemory command document → IfOk result (λ change. change_of change ≡ step ∷ []) → IfOk result (λ change. length (bytes_of (go_step step document)) ≤ MAX_FILE) → IfErr result (λ refusal. (refusal ≡ NoMemory) ⊎ ((refusal ≡ TooLarge) × (MAX_FILE < length (bytes_of (go_step step document))))) → (length (bytes_of (go_step step document)) ≤ MAX_FILE → IsPrepared command document (step ∷ [])) → (MAX_FILE < length (bytes_of (go_step step document)) → applied command document ≡ Err TooLarge) → Prepares command document result
+prepared_within_limit command document step (Ok change) asks made within refused fits large = subst (IsPrepared command document) (sym made) (fits within)
+prepared_within_limit command document step (Err refusal) asks made within refused fits large =
+    elim refused [ inl out_of_memory ↦ inl (out_of_memory, asks) | inr past ↦ inr (large past.1 ∙ ap (λ e. Err e) (sym past.0)) ]
 
 pub carries_in_layer : (document : Document) (position : ℕ) (layer : Layer) (change : List LayerItem → List LayerItem) (index taken : ℕ) (put : List LayerItem) → items_at position document ≡ Some layer.items → slice_get document position ≡ Some (OfLayer layer) → CanSplice IsLayerItem index taken put layer.items → splice index taken put layer.items ≡ change layer.items → Carries (LayerStep position index taken put) document (change_items change position document) (length (flat_map layer_item_bytes put)) (length (flat_map layer_item_bytes (part index taken layer.items)))
 carries_in_layer document position layer change index taken put items there can same = record {

@@ -7,6 +7,7 @@ use Rattle.mvt_change.specs.ChangeStands.{change_of}
 use Rattle.mvt_change.specs.declared.change.Change.{Change}
 use Rattle.mvt_meaning.specs.Command.{Command}
 use Rattle.mvt_meaning.specs.Meaning.{applied}
+use Rattle.mvt_meaning.specs.Memory.{AsksForMemory}
 use Rattle.mvt_meaning.specs.Weights.{put_by, taken_by}
 use Rattle.mvt_meaning.specs.declared.refusal.Refusal.{Refusal}
 use Rattle.mvt_meaning.specs.declared.refusal.Refusal.TheVariants.{NoMemory}
@@ -21,7 +22,8 @@ pub record IsPrepared (command : Command) (document : Document) (change : plain.
   pub takes : weight (turn change document) ≤ taken_by command document
   pub steps : 2 * length change ≤ 2 + taken_by command document + put_by command document
 
--- the change of the command, or its refusal; out of memory, and no other refusal, may come in place of either
+-- the change of the command, or its refusal; out of memory, and no other refusal, may come in place of either, where the
+-- command asks for memory
 abbrev pub Prepares : Command → Document → Result Change Refusal → Type 0
 Prepares command document (Ok change) = IsPrepared command document (change_of change)
-Prepares command document (Err refusal) = (refusal ≡ NoMemory) ⊎ (applied command document ≡ Err refusal)
+Prepares command document (Err refusal) = ((refusal ≡ NoMemory) × AsksForMemory command document) ⊎ (applied command document ≡ Err refusal)

@@ -8,8 +8,9 @@
 //! - Each request makes exactly the step of the definition, or is refused with exactly its refusal
 //!   (`answer`): `command`, `undo`, `redo`, `mark`, `unmark`, `back`, `begin`, `end`, `cancel`.
 //!   Only out of memory may come in place of that, and only at `command`, `undo`, `redo`, `mark`
-//!   and `end`: at the last four never in place of a refusal, at `mark` only for a new name, at
-//!   `end` only for a step of two commands or more (`no_memory`). `back` and `cancel` are stopped
+//!   and `end`: at `command` only where it asks for memory (`AsksForMemory`), at the last four never
+//!   in place of a refusal, at `mark` only for a new name, at `end` only for a step of two commands
+//!   or more (`no_memory`). `back` and `cancel` are stopped
 //!   on the way instead, and say how many steps they made, or how many commands they took back;
 //!   that stands. After every other refusal the session is as it was (`err`).
 //! - How many steps undo and redo can go, the depth, the marks, and how many commands the open step

@@ -3,6 +3,7 @@ use Rattle.std.specs.Prelude.{◌≡◌, ℕ, ◌+◌, ◌-◌, ◌<◌, ◌≤�
 use Rattle.mvt_document.specs.declared.TheConstants.{MAX_FILE}
 use Rattle.mvt_document.specs.Wire.{bytes_of}
 use Rattle.mvt_meaning.specs.Command.{Command}
+use Rattle.mvt_meaning.specs.Memory.{AsksForMemory}
 use Rattle.mvt_meaning.specs.declared.refusal.Refusal.{Refusal}
 use Rattle.mvt_meaning.specs.declared.refusal.Refusal.TheVariants as edit
 use Rattle.mvt_history_steps.specs.Marks.{Mark, counted_from, point_of}
@@ -49,10 +50,10 @@ AnswersWithMemory asked history (Ok done) new = (after : History) × (asked ≡ 
 AnswersWithMemory asked history (Err error) new = (((error ≡ NoMemory) × IsOk asked) ⊎ (asked ≡ Err error)) × StandsFor new history
 
 -- the session holds the history after the command; or it is refused as defined, or out of memory is answered in place
--- of either, and the session holds the history before
+-- of either, where the command asks for memory, and the session holds the history before
 abbrev pub AnswersCommand : Command → History → Result (Unit {0}) Refusal → Standing → Type 0
 AnswersCommand command history (Ok done) new = (after : History) × (edited command history ≡ Ok after) × StandsFor new after
-AnswersCommand command history (Err refusal) new = ((refusal ≡ edit.NoMemory) ⊎ (edited command history ≡ Err refusal)) × StandsFor new history
+AnswersCommand command history (Err refusal) new = (((refusal ≡ edit.NoMemory) × AsksForMemory command (standing_document history)) ⊎ (edited command history ≡ Err refusal)) × StandsFor new history
 
 -- ---- requests that may stop halfway
 

@@ -11,5 +11,6 @@ pub mod Moving
 pub mod Elements
 pub mod Found
 pub mod NeverOutOfMemory
+pub mod Asking
 pub mod PutOnce
 pub mod Others

@@ -6,6 +6,7 @@ pub mod Tagging
 pub mod Geometries
 pub mod Compaction
 pub mod Meaning
+pub mod Memory
 pub mod Weights
 pub mod Command
 pub mod Requests

@@ -1,9 +1,10 @@
 -- How a session answers a request.
 use Rattle.std.specs.Prelude.{◌≡◌, ◌⊎◌, ℕ, ◌<◌, ◌≤◌, None, length, IsSomeAnd, Result, Ok, Err, IsOk}
 use Rattle.mvt_document.specs.Held.{Held}
+use Rattle.mvt_meaning.specs.Memory.{AsksForMemory}
 use Rattle.mvt_meaning.specs.Requests.{Edit, SetMark, TakeMark, GoBack, Begin, End, Cancel}
 use Rattle.tile_arguments.specs.Request.{Request, OnHistory, ListMarks}
-use Rattle.mvt_history_steps.specs.History.{History}
+use Rattle.mvt_history_steps.specs.History.{History, standing_document}
 use Rattle.mvt_history_steps.specs.Marks.{point_of}
 use Rattle.mvt_history_steps.specs.Session.{StandsFor, StopsAt, StopsWithin}
 use Rattle.mvt_history_steps.specs.Standing.{Standing}
@@ -15,10 +16,10 @@ use Rattle.tile_course.specs.Answering.{carried_out}
 
 -- the request may be refused with 60, out of memory: not one that takes no memory (to mark the present point by a name
 -- that is marked already, to remove a mark, to open a step, to end one of fewer than two commands, to list no marks), nor
--- one that is stopped instead (to go back, to cancel); any other one, except for a command, only where it is accepted
--- with all memory
+-- one that is stopped instead (to go back, to cancel); a command only where it asks for memory, and any other one only
+-- where it is accepted with all memory
 abbrev pub NeedsMemory : Request → History → Type 0
-NeedsMemory (OnHistory (Edit command)) history = Unit {0}
+NeedsMemory (OnHistory (Edit command)) history = AsksForMemory command (standing_document history)
 NeedsMemory (OnHistory (SetMark name)) history = IsOk (carried_out (OnHistory (SetMark name)) history) × (point_of name history.marks ≡ None)
 NeedsMemory (OnHistory (TakeMark name)) history = ⊥
 NeedsMemory (OnHistory (GoBack name)) history = ⊥

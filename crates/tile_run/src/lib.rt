@@ -10,8 +10,9 @@
 //!   as the definition says, with the lines that the definition says (`answer`). Only out of memory
 //!   may be answered instead: as 60, but not to `unmark`, `back`, `begin` and `cancel`, to a `mark`
 //!   of a name that is marked already, to an `end` of a step of fewer than two commands, to `marks`
-//!   where there are none, or, but for a command, to what would be refused (`NeedsMemory`); and as a
-//!   stop of `back` and `cancel`, which says how many steps, or commands, were taken (`MayStop`).
+//!   where there are none, to a command before it asks for memory (`AsksForMemory`), or to anything
+//!   else that would be refused (`NeedsMemory`); and as a stop of `back` and `cancel`, which says
+//!   how many steps, or commands, were taken (`MayStop`).
 //!   After every refusal but a stop the session holds what it held before (`err`).
 #![tactic(auto)]
 

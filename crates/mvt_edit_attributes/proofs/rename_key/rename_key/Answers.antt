@@ -9,8 +9,9 @@ use Rattle.mvt_meaning.specs.CommandStands.{layer_choice_of}
 use Rattle.mvt_meaning.specs.Tagging.{is_key}
 use Rattle.mvt_edit_steps.specs.Prepared.{IsPrepared}
 use Rattle.mvt_edit_steps.proofs.Heavy.{heavy}
+use Rattle.mvt_edit_steps.proofs.Refusing.{ran_out}
 use Rattle.mvt_edit_attributes.proofs.KeyFields.{key_has_bytes, keys_valid}
-use Rattle.mvt_edit_attributes.proofs.KeysRenamed.{keys_renamed, keys_stay, not_renamed}
+use Rattle.mvt_edit_attributes.proofs.KeysRenamed.{keys_renamed, keys_stay, not_renamed, renaming_asks}
 use Rattle.mvt_edit_attributes.proofs.rename_key.rename_key.Goals as goal
 
 pub returns-in_err-check-clause-prepares : goal.returns-in_err-check-clause-prepares
@@ -33,6 +34,18 @@ returns-then-eq-clause-prepares c =
 
 pub returns-then-eq-clause-same : goal.returns-then-eq-clause-same
 returns-then-eq-clause-same c = λ _. c.new-then-eq.ensures.change ∙ ap (map step_of) c.new.ensures.items
+
+pub returns-in_err-renaming-clause-prepares : goal.returns-in_err-renaming-clause-prepares
+returns-in_err-renaming-clause-prepares c =
+    let choice = layer_choice_of c.args.choice.now in
+    let old = c.args.old.now in
+    let new = c.args.new.now in
+    let document = document_of c.args.document.now in
+    let found = c.in_ok-found.found in
+    let is = c.in_ok-found.ensures.found in
+    let out = c.from_residual-in_err-renaming in
+    ran_out (RenameKey choice old new) document out.result out.ensures.1
+    (renaming_asks choice old new document found.ordinal found.position (layer_of found.layer.now) is.selects is.placed is.there (sym c.in_ok-check.ensures))
 
 pub returns-clause-prepares : goal.returns-clause-prepares
 returns-clause-prepares c =

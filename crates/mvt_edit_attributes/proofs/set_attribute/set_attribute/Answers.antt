@@ -16,6 +16,7 @@ use Rattle.mvt_edit_steps.specs.Fates.{seen, splice_of}
 use Rattle.mvt_edit_steps.proofs.Carrying.{in_feature_at}
 use Rattle.mvt_edit_attributes.specs.Attribute.{AreFound, appended, entries_for}
 use Rattle.mvt_edit_attributes.proofs.AttributeSet.{attribute_set, attributed_at, entries_lacked, no_feature_gets, set_too_large, tags_refused}
+use Rattle.mvt_edit_attributes.proofs.BothFound.{both_found, set_ran_out}
 use Rattle.mvt_edit_attributes.proofs.set_attribute.set_attribute.Goals as goal
 
 pub returns-in_err-found : goal.returns-in_err-found
@@ -26,6 +27,11 @@ returns-in_err-found c =
     let passed = err_from_is_err_and c.from_residual-in_err-found.result c.from_residual-in_err-found.ensures.1 in
     rw (passed.1, passed.2) (inr refused)
 
+pub returns-in_err-value : goal.returns-in_err-value
+returns-in_err-value c =
+    let out = c.from_residual-in_err-value in
+    set_ran_out (layer_choice_of c.args.choice.now) (feature_choice_of c.args.feature.now) (document_of c.args.document.now) c.in_ok-holder.holder c.in_ok-found.found c.in_ok-holder.ensures.found c.in_ok-found.ensures.found c.args.key.now (new_value_of c.args.value.now) out.result out.ensures.1
+
 pub returns-in_err-run : goal.returns-in_err-run
 returns-in_err-run c =
     let holder = c.in_ok-holder.holder in
@@ -35,9 +41,14 @@ returns-in_err-run c =
     let passed = err_from_is_err_and c.from_residual-in_err-run.result c.from_residual-in_err-run.ensures.1 in
     rw (passed.1, passed.2) (
     elim c.in_err-run.ensures.refused [
-      | inl memory ↦ inl memory
+      | inl memory ↦ inl (memory, both_found (layer_choice_of c.args.choice.now) (feature_choice_of c.args.feature.now) (document_of c.args.document.now) holder found is here)
       | inr refused ↦ inr (tags_refused (layer_choice_of c.args.choice.now) c.args.key.now (new_value_of c.args.value.now) (document_of c.args.document.now) holder.ordinal holder.position (layer_of holder.layer.now) is.selects is.placed is.there (feature_choice_of c.args.feature.now) found.ordinal found.position (feature_of found.feature.now) here.selects here.placed here.there _ refused)
     ])
+
+pub returns-in_err-entries : goal.returns-in_err-entries
+returns-in_err-entries c =
+    let out = c.from_residual-in_err-entries in
+    set_ran_out (layer_choice_of c.args.choice.now) (feature_choice_of c.args.feature.now) (document_of c.args.document.now) c.in_ok-holder.holder c.in_ok-found.found c.in_ok-holder.ensures.found c.in_ok-found.ensures.found c.args.key.now (new_value_of c.args.value.now) out.result out.ensures.1
 
 pub returns-then-not-fits_with : goal.returns-then-not-fits_with
 returns-then-not-fits_with c =
@@ -58,6 +69,11 @@ returns-then-not-fits_with c =
     let answered = c.fits_with.ensures (with_attribute key bytes layer.items) (sym gives.makes)
     ∙ ap (λ more. not (nat_lt MAX_FILE (length (bytes_of (change_items (λ items. change_at (in_feature (with_attribute key bytes layer.items)) found.position items ++ more) holder.position document))))) (ap (map layer_item_of) c.as_slice-2.ensures.value ∙ entries) in
     inr (set_too_large choice key value document holder.ordinal holder.position layer is.selects is.placed is.there (feature_choice_of c.args.feature.now) found.ordinal found.position feature here.selects here.placed here.there c.in_ok-run.ensures.checked (not-false (nat_lt MAX_FILE (length (bytes_of (change_items (attributed_at key bytes layer.items found.position) holder.position document)))) (sym answered ∙ c.if-not-fits_with.true)))
+
+pub returns-in_err-steps_of : goal.returns-in_err-steps_of
+returns-in_err-steps_of c =
+    let out = c.from_residual-in_err-steps_of in
+    set_ran_out (layer_choice_of c.args.choice.now) (feature_choice_of c.args.feature.now) (document_of c.args.document.now) c.in_ok-holder.holder c.in_ok-found.found c.in_ok-holder.ensures.found c.in_ok-found.ensures.found c.args.key.now (new_value_of c.args.value.now) out.result out.ensures.1
 
 pub returns : goal.returns
 returns c =

@@ -1,6 +1,7 @@
 use Rattle.std.proofs.Common.{Err, inl, inr, sym, ap, ◌∙◌}
 use Rattle.std.proofs.lemmas.Result.{err_from_is_err_and}
 use Rattle.mvt_document.specs.Stands.{document_of, feature_of, layer_of}
+use Rattle.mvt_meaning.specs.Command.{UnsetAttribute}
 use Rattle.mvt_meaning.specs.CommandStands.{feature_choice_of, layer_choice_of}
 use Rattle.mvt_meaning.specs.Tagging.{removals}
 use Rattle.mvt_meaning.proofs.Removals.{removals_short}
@@ -8,6 +9,8 @@ use Rattle.mvt_layers.specs.Seen.{found_feature_seen}
 use Rattle.mvt_edit_steps.specs.Decided.{field_fates}
 use Rattle.mvt_edit_steps.proofs.FieldsLeft.{fields_left}
 use Rattle.mvt_edit_steps.specs.EachFeature.{feature_steps}
+use Rattle.mvt_edit_steps.proofs.Refusing.{ran_out}
+use Rattle.mvt_edit_attributes.proofs.BothFound.{both_found}
 use Rattle.mvt_edit_attributes.proofs.PairsLost.{key_lacks, no_feature_loses, pairs_lack, tags_lose}
 use Rattle.mvt_edit_attributes.proofs.unset.unset.Goals as goal
 
@@ -31,7 +34,7 @@ returns-in_err-decisions c =
     let passed = err_from_is_err_and c.from_residual-in_err-decisions.result c.from_residual-in_err-decisions.ensures.1 in
     rw (passed.1, passed.2) (
     elim c.in_err-decisions.ensures.refused [
-      | inl memory ↦ inl memory
+      | inl memory ↦ inl (memory, both_found choice (feature_choice_of c.args.feature.now) (document_of c.args.document.now) holder found is here)
       | inr other ↦ (
           elim other [
             | inl lacks ↦ inr (key_lacks choice key (document_of c.args.document.now) holder.ordinal holder.position layer is.selects is.placed is.there (feature_choice_of c.args.feature.now) found.ordinal found.position feature here.selects here.placed here.there lacks.1 ∙ ap Err (sym lacks.0))
@@ -39,6 +42,15 @@ returns-in_err-decisions c =
           ]
           )
     ])
+
+pub returns-in_err-removing : goal.returns-in_err-removing
+returns-in_err-removing c =
+    let choice = layer_choice_of c.args.choice.now in
+    let feature = feature_choice_of c.args.feature.now in
+    let document = document_of c.args.document.now in
+    let out = c.from_residual-in_err-removing in
+    ran_out (UnsetAttribute choice feature c.args.key.now) document out.result out.ensures.1
+    (both_found choice feature document c.in_ok-holder.holder c.in_ok-found.found c.in_ok-holder.ensures.found c.in_ok-found.ensures.found)
 
 pub returns : goal.returns
 returns c =

@@ -9,11 +9,14 @@ use Rattle.mvt_document.specs.Stands.{document_of, feature_of, field_of, layer_o
 use Rattle.mvt_document.specs.Wire.{bytes_of, field_bytes}
 use Rattle.mvt_geometry.specs.Shapes.{kind_number}
 use Rattle.mvt_change.specs.Changes.{FeatureStep}
+use Rattle.mvt_meaning.specs.Command.{SetGeometry}
 use Rattle.mvt_meaning.specs.CommandStands.{feature_choice_of, layer_choice_of}
 use Rattle.mvt_meaning.specs.Geometries.{is_geometry_field, is_kind, with_geometry, with_kind}
+use Rattle.mvt_meaning.proofs.Asking.{finds_feature}
 use Rattle.mvt_edit_steps.specs.Once.{once_splices}
 use Rattle.mvt_edit_steps.specs.PutsLast.{ReplacesLast}
 use Rattle.mvt_edit_steps.proofs.Carrying.{in_feature_at}
+use Rattle.mvt_edit_steps.proofs.Refusing.{ran_out}
 use Rattle.mvt_edit_geometry.proofs.Drawn.{drawn_size}
 use Rattle.mvt_edit_geometry.proofs.GeometrySet.{drawing_refused, drawn_too_large, geometry_set, no_feature_drawn}
 use Rattle.mvt_edit_geometry.proofs.Redrawn.{drawings_heavy}
@@ -35,6 +38,16 @@ returns-in_err-drawing c =
     let here = c.in_ok-found.ensures.found in
     let passed = err_from_is_err_and c.from_residual-in_err-drawing.result c.from_residual-in_err-drawing.ensures.1 in
     rw (passed.1, passed.2) (drawing_refused (layer_choice_of c.args.choice.now) c.args.geometry.now (document_of c.args.document.now) holder.ordinal holder.position (layer_of holder.layer.now) is.selects is.placed is.there (feature_choice_of c.args.feature.now) found.ordinal found.position (feature_of found.feature.now) here.selects here.placed here.there c.in_err-drawing.field-0.0 (λ same. c.in_err-drawing.ensures.out_of_range (ap (λ error. Err error) same)))
+
+pub returns-in_err-steps_of : goal.returns-in_err-steps_of
+returns-in_err-steps_of c =
+    let choice = layer_choice_of c.args.choice.now in
+    let feature = feature_choice_of c.args.feature.now in
+    let document = document_of c.args.document.now in
+    let holder = c.in_ok-holder.holder in
+    let is = c.in_ok-holder.ensures.found in
+    let asks = finds_feature choice document holder.ordinal holder.position (layer_of holder.layer.now) is.selects is.placed is.there feature c.in_ok-found.found.ordinal c.in_ok-found.ensures.found.selects in
+    ran_out (SetGeometry choice feature c.args.geometry.now) document c.from_residual-in_err-steps_of.result c.from_residual-in_err-steps_of.ensures.1 asks
 
 pub size_drawn-size-requires : goal.size_drawn-size-requires
 size_drawn-size-requires c = let within = c.in_ok-drawing.ensures.kind.can.within in omega (arith, within, length-map c.fields-fields.result.now field_of)

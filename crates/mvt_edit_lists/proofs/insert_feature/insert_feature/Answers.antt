@@ -6,7 +6,7 @@ use Rattle.mvt_meaning.specs.Command.{InsertFeature}
 use Rattle.mvt_meaning.specs.CommandStands.{layer_choice_of}
 use Rattle.mvt_meaning.specs.Meaning.{new_feature}
 use Rattle.mvt_meaning.specs.declared.refusal.Refusal.TheVariants.{BadPlace}
-use Rattle.mvt_edit_lists.proofs.InsertionPrepared.{insertion_fits, insertion_refused, insertion_past, insertion_prepared, insertion_too_large}
+use Rattle.mvt_edit_lists.proofs.InsertionPrepared.{insertion_asks, insertion_fits, insertion_refused, insertion_past, insertion_prepared, insertion_too_large}
 use Rattle.mvt_edit_steps.proofs.OneStep.{prepared_within_limit}
 use Rattle.mvt_edit_steps.proofs.Refusing.{none_refused, some_found}
 use Rattle.mvt_edit_lists.proofs.insert_feature.insert_feature.Goals as goal
@@ -45,6 +45,7 @@ returns c =
     let layer = layer_of c.in_ok-found.found.layer.now in
     let limited = c.one_step_within_limit.ensures in
     prepared_within_limit (InsertFeature choice c.args.index c.args.geometry.now) document (LayerStep c.in_ok-found.found.position c.in_ok-place.place 0 (new_feature c.args.geometry.now ∷ [])) c.one_step_within_limit.result
+    (insertion_asks choice c.args.index c.in_ok-found.found.ordinal c.in_ok-found.found.position c.args.geometry.now document layer found.selects found.placed found.there c.in_ok-place.place place)
     (rw (c.of_one.ensures.items, c.in_ok-feature.ensures.feature) at limited.made)
     (rw (c.of_one.ensures.items, c.in_ok-feature.ensures.feature) at limited.within)
     (rw (c.of_one.ensures.items, c.in_ok-feature.ensures.feature) at limited.refused)

@@ -4,11 +4,13 @@ use Rattle.mvt_document.specs.Stands.{document_of, tile_item_of}
 use Rattle.mvt_document.specs.Wire.{tile_item_bytes}
 use Rattle.mvt_change.specs.Changes.{TileStep}
 use Rattle.mvt_change.specs.ChangeStands.{step_of}
+use Rattle.mvt_meaning.specs.Command.{KeepLayers}
 use Rattle.mvt_edit_steps.specs.Fates.{splices_of}
 use Rattle.mvt_edit_steps.proofs.Carrying.{in_tile}
 use Rattle.mvt_edit_steps.proofs.Following.{alone}
 use Rattle.mvt_edit_steps.proofs.Going.{count_seen, out, out_seen, seen}
 use Rattle.mvt_edit_steps.proofs.Heavy.{heavy}
+use Rattle.mvt_edit_steps.proofs.Refusing.{ran_out}
 use Rattle.mvt_edit_lists.proofs.HaveBytes.{layer_has_bytes}
 use Rattle.mvt_edit_lists.proofs.Kept.{goes, kept_alike, keeps, none_stays}
 use Rattle.mvt_edit_lists.proofs.keep_layers.keep_layers.Goals as goal
@@ -38,3 +40,11 @@ returns c =
     ∙ ap (λ list. map in_tile (out (goes names) (map tile_item_of list))) c.as_slice-items.ensures)
     (λ all. c.if-gone-layer_count.false (counted ∙ listed ∙ all ∙ sym c.layer_count.ensures))
     (heavy tile_item_bytes tile_item_of (goes names) (layer_has_bytes names) items)
+
+pub returns-in_err-ordered : goal.returns-in_err-ordered
+returns-in_err-ordered c =
+    ran_out (KeepLayers (map (λ name. name.items) c.args.names.now)) (document_of c.args.document.now) c.from_residual.result c.from_residual.ensures.1 tt
+
+pub returns-in_err-gone : goal.returns-in_err-gone
+returns-in_err-gone c =
+    ran_out (KeepLayers (map (λ name. name.items) c.args.names.now)) (document_of c.args.document.now) c.from_residual-in_err-gone.result c.from_residual-in_err-gone.ensures.1 tt

@@ -10,7 +10,7 @@ use Rattle.mvt_layers.specs.Seen.{found_layer_seen}
 use Rattle.mvt_select.specs.Found.{layers_left}
 use Rattle.mvt_edit_steps.proofs.StepsPassed.{steps_more}
 use Rattle.mvt_edit_pools.specs.Pools.{compacting, keys_stay, values_stay}
-use Rattle.mvt_edit_pools.proofs.Compacted.{compacts, layer_refused, none_selected, readable_after}
+use Rattle.mvt_edit_pools.proofs.Compacted.{compaction_asks, compacts, layer_refused, none_selected, readable_after}
 use Rattle.mvt_edit_pools.proofs.compact.compact.Goals as goal
 
 pub returns : goal.returns
@@ -53,7 +53,7 @@ returns-in_err-compact_layer c =
     let passed = err_from_is_err_and c.from_residual-in_err-compact_layer.result c.from_residual-in_err-compact_layer.ensures.1 in
     rw (passed.1, passed.2) (
     elim c.in_err-compact_layer.ensures.refused [
-      | inl memory ↦ inl memory
+      | inl memory ↦ inl (memory, compaction_asks c.args.pools (layers_choice_of c.args.choice.now) (document_of c.args.document.now) (layers_left c.in_ok-layers.layers) c.in_ok-layers.ensures.found)
       | inr bad ↦ inr (layer_refused c.args.pools (layers_choice_of c.args.choice.now) (document_of c.args.document.now) (layers_left c.in_ok-layers.layers) at rest _ c.in_ok-layers.ensures.found
           (ap unreadable (sym c.in-Some.ensures.steps) ∙ c.loop-found.invariant.readable ∙ ap unreadable all) bad)
     ])
