@@ -1,8 +1,8 @@
 """The walks that a script may take: what each of its lines may be answered, and the state that then stands.
 
-A plain walk answers each line as docs/FORMATS.md says. If memory is refused, a line may be answered differently: a line
-that is looked at for words by 60, with nothing changed, and a `back` or `cancel` by 54 with as many steps or commands
-taken as it says. A state is the tile at the start and the commands since: its tile is made anew from these.
+A plain walk answers each line as docs/FORMATS.md says. If memory is refused, a line may be answered differently: one
+that may need memory by 60, with nothing changed, and a `back` or `cancel` by 54 with as many steps or commands taken as it
+says. A state is the tile at the start and the commands since: its tile is made anew from these.
 """
 import re
 import sys
@@ -355,8 +355,19 @@ def answers_to(state, line, content):
     except Refused as refused:
         return [refusal(line, state, refused.number), refusal(line, state, 60)]
     first = plain(state, line, words)
+    out_of_memory = [refusal(line, state, 60)] if may_run_out(state, words, first) else []
     stopped = [] if first.refusal else stops(state, line, words[0].text, first.state)
-    return [first, refusal(line, state, 60), *stopped]
+    return [first, *out_of_memory, *stopped]
+
+
+def may_run_out(state, words, first):
+    """Whether the line may be answered 60: to read several words takes memory, and to carry out what a word alone asks for."""
+    if len(words) > 1:
+        return True
+    takes_none = {"begin", "cancel"}
+    takes_none |= {"end"} if len(state.opened or ()) < 2 else set()
+    takes_none |= set() if state.marks else {"marks"}
+    return not first.refusal and words[0].text not in takes_none
 
 
 def plain_walk(state, script):
