@@ -10,6 +10,7 @@ OPTIONS = "crates/tile_command_line/src/command_line.rt"
 REQUESTS = ["crates/tile_script/src/requests.rt", "crates/tile_script/src/commands.rt"]
 HELP = "crates/tile_command_line/src/help.rt"
 REFUSALS = "crates/tile_course/src/refused.rt"
+OUTCOMES = "crates/tile_course/src/outcome.rt"
 FORMATS = "docs/FORMATS.md"
 README = "README.md"
 PROGRAM = "man/tileshell.1"
@@ -45,8 +46,13 @@ def requests():
 
 
 def refusals():
-    """The number and the name of each refusal."""
-    return set(re.findall(r'=> \((\d+), "(\w+)"\)', read(REFUSALS)))
+    """The number and the name of each refusal of a line."""
+    return {f"{number} {name}" for number, name in re.findall(r'=> \((\d+), "(\w+)"\)', read(REFUSALS))}
+
+
+def tile_refusals():
+    """The number and the name of each refusal of a tile."""
+    return set(re.findall(r'#\[error\("(\d+ \w+)', read(OUTCOMES)))
 
 
 # ---- pages
@@ -97,9 +103,9 @@ def request_faults():
 
 
 def refusal_faults():
-    wanted = {" ".join(refusal) for refusal in refusals()}
-    yield from differences(FORMATS, "refusal", wanted, {" ".join(row[:2]) for row in table(FORMATS, "N | NAME |")})
-    yield from differences(SCRIPT, "refusal", wanted, heads_in(SCRIPT, "REFUSALS"))
+    yield from differences(FORMATS, "refusal", refusals() | tile_refusals(), {" ".join(row[:2]) for row in table(FORMATS, "N | NAME |")})
+    yield from differences(SCRIPT, "refusal", refusals(), heads_in(SCRIPT, "REFUSALS"))
+    yield from differences(PROGRAM, "refusal", tile_refusals(), set(re.findall(r"tile refused: (\d+ \w+)", read(PROGRAM))))
 
 
 def option_faults():
