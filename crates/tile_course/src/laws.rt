@@ -1,6 +1,15 @@
-//! Laws of how requests are answered. Each function does nothing: its contract is the law.
+//! Laws of runs, and of how requests are answered. Each function does nothing: its contract is the law.
 
+ghost use Rattle.std.specs.Prelude.{◌≡◌};
 ghost use Rattle.tile_course.specs.AnswerLaws.{RequestsPrintLines, NoRequestIsOutOfMemory, LooksLeaveHistory};
+ghost use Rattle.tile_course.specs.declared.limits.TheConstants.{MAX_RETRIES, MAX_SCRIPT};
+
+/// A script has at most 16,777,216 bytes (`script`), and in a run at most 1,000 interrupted calls
+/// are made again (`retries`).
+pub fn limits()
+    ensures script { MAX_SCRIPT ≡ 16777216 }
+    ensures retries { MAX_RETRIES ≡ 1000 }
+{}
 
 /// What a request prints before `ok` is whole lines, and none of them begins as a refusal does.
 pub fn requests_print_lines()

@@ -7,6 +7,12 @@ ghost use Rattle.tile_lines.specs.Cutting.{cut_of, nothing_held, after_pushes, r
 ghost use Rattle.tile_lines.specs.Lines.{lines_of, SpellsLines};
 ghost use Rattle.tile_lines.specs.Spelling.{SpellsWords};
 ghost use Rattle.tile_lines.specs.Words.{Word, words_of};
+ghost use Rattle.tile_lines.specs.declared.TheConstants.{LINE_LIMIT};
+
+/// A line has at most 65,536 bytes.
+pub fn limits()
+    ensures { LINE_LIMIT ≡ 65536 }
+{}
 
 /// The lines of a script make it up (`found`), and no others do (`only`).
 pub fn lines_make_up_the_script()
