@@ -1,8 +1,9 @@
 //! The program, from its words to its status.
 
-ghost use Rattle.std.specs.Prelude.{◌≤◌};
+ghost use Rattle.std.specs.Prelude.{◌≡◌, ◌≤◌};
 ghost use Rattle.mvt_history_steps.specs.declared.TheConstants.{MAX_DEPTH};
 ghost use Rattle.tile_command_line.specs.Depth.{HasDepth};
+ghost use Rattle.tile_files.specs.Status.{status_of};
 
 use crate::created::Created;
 use clap::ArgMatches;
@@ -114,7 +115,9 @@ fn outcome_of(
 }
 
 /// Returns the status of the outcome, and prints on standard error why no tile was written, unless replies say it.
-fn report<R: Eprint>(rt: &R, outcome: Outcome) -> u8 {
+fn report<R: Eprint>(rt: &R, outcome: Outcome) -> u8
+    ensures { result ≡ status_of outcome }
+{
     match outcome {
         Outcome::Done => 0,
         Outcome::SomeRefused | Outcome::StrictStop => 1,
