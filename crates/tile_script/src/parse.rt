@@ -2,7 +2,7 @@
 
 ghost use Rattle.std.specs.Prelude.{◌≡◌, ℕ, List, option_map};
 ghost use Rattle.std.specs.Result.{IsErrOf};
-ghost use Rattle.tile_lines.specs.Cutting.{cut_of};
+ghost use Rattle.tile_lines.specs.Cutting.{cut_of, Whole};
 ghost use Rattle.tile_lines.specs.CutStands.{cut_seen};
 ghost use Rattle.tile_arguments.specs.RequestStands.{request_of};
 ghost use Rattle.tile_script.specs.Line.{request_in, is_remark, answer_to, TakesMemory};
@@ -44,6 +44,12 @@ pub fn parse_cut(alloc: Global, cut: Cut<'_>) -> Result<Option<Request>, ParseEr
 
     // Where memory never runs out for a line, it never does for its cut.
     ensures no_memory { (line : List ℕ) → cut_of line ≡ cut_seen cut.entry
+        → IsErrOf result ParseError.NoMemory → TakesMemory line }
+
+    // The same of the line that a cut holds, also of one that no cutter leaves whole.
+    ensures line { (line : List ℕ) → cut_seen cut.entry ≡ Whole line
+        → Gives (option_map request_of) result (answer_to line) }
+    ensures line_no_memory { (line : List ℕ) → cut_seen cut.entry ≡ Whole line
         → IsErrOf result ParseError.NoMemory → TakesMemory line }
 {
     match cut {
