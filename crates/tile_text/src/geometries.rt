@@ -1,6 +1,6 @@
 //! Geometries, each as the word of its kind and its points.
 
-ghost use Rattle.std.specs.Prelude.{◌≡◌, ◌++◌, map, OnOk};
+ghost use Rattle.std.specs.Prelude.{◌≡◌, ◌++◌, map, OnErr, OnOk};
 ghost use Rattle.std.specs.List.{flat_map};
 ghost use Rattle.mvt_geometry.specs.Stands.{points_of};
 ghost use Rattle.tile_text.specs.Extends.{Extends};
@@ -16,6 +16,7 @@ use tile_arguments::kind_word;
 pub fn put_geometry(line: &mut Vec<u8>, geometry: &Geometry) -> Result<(), AllocError>
     ensures ok { OnOk result (line.new.items ≡ line.old.items ++ geometry_form geometry.now) }
     ensures kept { Extends line.old.items line.new.items }
+    ensures err { OnErr result (Extends line.new.items (line.old.items ++ geometry_form geometry.now)) }
 {
     line.extend_from_slice(kind_word(geometry.kind()))?;
     put_parts(line, geometry.parts())
@@ -25,6 +26,7 @@ pub fn put_geometry(line: &mut Vec<u8>, geometry: &Geometry) -> Result<(), Alloc
 fn put_parts(line: &mut Vec<u8>, parts: &[Part]) -> Result<(), AllocError>
     ensures ok { OnOk result (line.new.items ≡ line.old.items ++ with_leading_spaces (part_words (map points_of parts.now))) }
     ensures kept { Extends line.old.items line.new.items }
+    ensures err { OnErr result (Extends line.new.items (line.old.items ++ with_leading_spaces (part_words (map points_of parts.now)))) }
 {
     match parts {
         [] => Ok(()),
@@ -39,6 +41,7 @@ fn put_parts(line: &mut Vec<u8>, parts: &[Part]) -> Result<(), AllocError>
 fn put_other_parts(line: &mut Vec<u8>, parts: &[Part]) -> Result<(), AllocError>
     ensures ok { OnOk result (line.new.items ≡ line.old.items ++ flat_map (λ part. other_part (points_of part)) parts.now) }
     ensures kept { Extends line.old.items line.new.items }
+    ensures err { OnErr result (Extends line.new.items (line.old.items ++ flat_map (λ part. other_part (points_of part)) parts.now)) }
 {
     for part in parts {
         put_other_part(line, part)?;
@@ -49,6 +52,7 @@ fn put_other_parts(line: &mut Vec<u8>, parts: &[Part]) -> Result<(), AllocError>
 fn put_other_part(line: &mut Vec<u8>, part: &Part) -> Result<(), AllocError>
     ensures ok { OnOk result (line.new.items ≡ line.old.items ++ other_part (points_of part.now)) }
     ensures kept { Extends line.old.items line.new.items }
+    ensures err { OnErr result (Extends line.new.items (line.old.items ++ other_part (points_of part.now))) }
 {
     line.extend_from_slice(b" /")?;
     put_points(line, part.points.as_slice())
@@ -58,6 +62,7 @@ fn put_other_part(line: &mut Vec<u8>, part: &Part) -> Result<(), AllocError>
 fn put_points(line: &mut Vec<u8>, points: &[Point]) -> Result<(), AllocError>
     ensures ok { OnOk result (line.new.items ≡ line.old.items ++ with_leading_spaces (map point_form points.now)) }
     ensures kept { Extends line.old.items line.new.items }
+    ensures err { OnErr result (Extends line.new.items (line.old.items ++ with_leading_spaces (map point_form points.now))) }
 {
     for point in points {
         line.push(b' ')?;
@@ -69,6 +74,7 @@ fn put_points(line: &mut Vec<u8>, points: &[Point]) -> Result<(), AllocError>
 fn put_point(line: &mut Vec<u8>, point: Point) -> Result<(), AllocError>
     ensures ok { OnOk result (line.new.items ≡ line.old.items ++ point_form point) }
     ensures kept { Extends line.old.items line.new.items }
+    ensures err { OnErr result (Extends line.new.items (line.old.items ++ point_form point)) }
 {
     put_signed_decimal(line, point.x)?;
     line.push(b',')?;

@@ -3,8 +3,8 @@
 //!
 //! - Any bytes as a text (`put_text`, `quote`), what is shown of a value (`put_value`), and a
 //!   geometry (`put_geometry`) are added to a line in their forms (`ok`). Where memory runs out,
-//!   the line keeps what it had (`kept`), and may have a part of the form after that, of which no
-//!   clause speaks. The same holds of `put_hex`, `put_decimal` and `put_signed_decimal`.
+//!   the line keeps what it had (`kept`), and has at most a prefix of the form after that (`err`).
+//!   The same holds of `put_hex`, `put_decimal` and `put_signed_decimal`.
 #![tactic(auto)]
 
 mod geometries;

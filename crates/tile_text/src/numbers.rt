@@ -1,6 +1,6 @@
 //! Numbers in decimal digits.
 
-ghost use Rattle.std.specs.Prelude.{◌≡◌, ◌++◌, decimal, OnOk};
+ghost use Rattle.std.specs.Prelude.{◌≡◌, ◌++◌, decimal, OnErr, OnOk};
 ghost use Rattle.std.specs.Fmt.{signed_decimal};
 ghost use Rattle.tile_text.specs.Extends.{Extends};
 
@@ -11,6 +11,7 @@ use std::alloc::AllocError;
 pub fn put_decimal(line: &mut Vec<u8>, number: u64) -> Result<(), AllocError>
     ensures ok { OnOk result (line.new.items ≡ line.old.items ++ decimal number) }
     ensures kept { Extends line.old.items line.new.items }
+    ensures err { OnErr result (Extends line.new.items (line.old.items ++ decimal number)) }
 {
     line.extend_from_slice(Buffer::new().format(number).as_bytes())
 }
@@ -19,6 +20,7 @@ pub fn put_decimal(line: &mut Vec<u8>, number: u64) -> Result<(), AllocError>
 pub fn put_signed_decimal(line: &mut Vec<u8>, integer: i64) -> Result<(), AllocError>
     ensures ok { OnOk result (line.new.items ≡ line.old.items ++ signed_decimal integer) }
     ensures kept { Extends line.old.items line.new.items }
+    ensures err { OnErr result (Extends line.new.items (line.old.items ++ signed_decimal integer)) }
 {
     line.extend_from_slice(Buffer::new().format(integer).as_bytes())
 }

@@ -1,6 +1,6 @@
 //! Bytes as a quoted word or as hexadecimal digits.
 
-ghost use Rattle.std.specs.Prelude.{◌≡◌, ◌<◌, ◌≤◌, ◌++◌, length, IfOk, OnOk, IsTrue};
+ghost use Rattle.std.specs.Prelude.{◌≡◌, ◌<◌, ◌≤◌, ◌++◌, length, IfOk, OnErr, OnOk, IsTrue};
 ghost use Rattle.std.specs.List.{flat_map, position, position_or_len};
 ghost use Rattle.hex.specs.Hex.{encode_lower};
 ghost use Rattle.tile_text.specs.Extends.{Extends};
@@ -27,6 +27,7 @@ pub fn quote(alloc: Global, bytes: &[u8]) -> Result<Items<u8>, AllocError>
 pub fn put_text(line: &mut Vec<u8>, bytes: &[u8]) -> Result<(), AllocError>
     ensures ok { OnOk result (line.new.items ≡ line.old.items ++ text_form bytes.now) }
     ensures kept { Extends line.old.items line.new.items }
+    ensures err { OnErr result (Extends line.new.items (line.old.items ++ text_form bytes.now)) }
 {
     if is_utf8(bytes) {
         put_quoted(line, bytes)
@@ -39,6 +40,7 @@ pub fn put_text(line: &mut Vec<u8>, bytes: &[u8]) -> Result<(), AllocError>
 fn put_quoted(line: &mut Vec<u8>, text: &[u8]) -> Result<(), AllocError>
     ensures ok { OnOk result (line.new.items ≡ line.old.items ++ quoted text.now) }
     ensures kept { Extends line.old.items line.new.items }
+    ensures err { OnErr result (Extends line.new.items (line.old.items ++ quoted text.now)) }
 {
     line.reserve(text.len() + 2)?;
     line.push(b'"')?;
@@ -56,6 +58,7 @@ fn put_run<'a>(line: &mut Vec<u8>, bytes: &'a [u8]) -> Result<&'a [u8], AllocErr
         ≡ line.old.items ++ flat_map quoted_byte bytes.now) }
     ensures shorter { IfOk result (λ rest. 0 < length bytes.now → length rest.now < length bytes.now) }
     ensures kept { Extends line.old.items line.new.items }
+    ensures err { OnErr result (Extends line.new.items (line.old.items ++ flat_map quoted_byte bytes.now)) }
 {
     let (plain, following) = bytes.split_at(plain_len(bytes));
     line.extend_from_slice(plain)?;
@@ -93,6 +96,7 @@ fn put_escaped(line: &mut Vec<u8>, byte: u8) -> Result<(), AllocError>
     requires { IsTrue (is_escaped byte) }
     ensures ok { OnOk result (line.new.items ≡ line.old.items ++ quoted_byte byte) }
     ensures kept { Extends line.old.items line.new.items }
+    ensures err { OnErr result (Extends line.new.items (line.old.items ++ quoted_byte byte)) }
 {
     match byte {
         b'"' | b'\\' => line.extend_from_slice(&[b'\\', byte]),
@@ -107,6 +111,7 @@ fn put_escaped(line: &mut Vec<u8>, byte: u8) -> Result<(), AllocError>
 pub fn put_hex(line: &mut Vec<u8>, bytes: &[u8]) -> Result<(), AllocError>
     ensures ok { OnOk result (line.new.items ≡ line.old.items ++ encode_lower bytes.now) }
     ensures kept { Extends line.old.items line.new.items }
+    ensures err { OnErr result (Extends line.new.items (line.old.items ++ encode_lower bytes.now)) }
 {
     line.reserve(2 * bytes.len())?;
     for chunk in bytes.chunks(CHUNK) {
@@ -119,6 +124,7 @@ fn put_hex_chunk(line: &mut Vec<u8>, chunk: &[u8]) -> Result<(), AllocError>
     requires { length chunk.now ≤ CHUNK }
     ensures ok { OnOk result (line.new.items ≡ line.old.items ++ encode_lower chunk.now) }
     ensures kept { Extends line.old.items line.new.items }
+    ensures err { OnErr result (Extends line.new.items (line.old.items ++ encode_lower chunk.now)) }
 {
     let mut room = [0; 2 * CHUNK];
     let digits = &mut room[..2 * chunk.len()];

@@ -1,6 +1,6 @@
 //! Values, each as its type and a word.
 
-ghost use Rattle.std.specs.Prelude.{◌≡◌, ◌++◌, OnOk};
+ghost use Rattle.std.specs.Prelude.{◌≡◌, ◌++◌, OnErr, OnOk};
 ghost use Rattle.tile_text.specs.Extends.{Extends};
 ghost use Rattle.tile_text.specs.TextStands.{shown_form, type_word};
 
@@ -13,6 +13,7 @@ use std::alloc::AllocError;
 pub fn put_value(line: &mut Vec<u8>, value: Value<'_>) -> Result<(), AllocError>
     ensures ok { OnOk result (line.new.items ≡ line.old.items ++ shown_form value.entry) }
     ensures kept { Extends line.old.items line.new.items }
+    ensures err { OnErr result (Extends line.new.items (line.old.items ++ shown_form value.entry)) }
 {
     line.extend_from_slice(type_word(value))?;
     match value {

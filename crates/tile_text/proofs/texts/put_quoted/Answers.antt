@@ -1,10 +1,15 @@
 use Rattle.std.proofs.Common.{◌∙◌}
 use Rattle.tile_text.specs.Extends.{Extends}
-use Rattle.tile_text.proofs.Writing.{extends_more}
+use Rattle.tile_text.proofs.Writing.{extends_more, text_begun, on_err}
 use Rattle.tile_text.proofs.texts.put_quoted.Goals as goal
 
 pub returns-in_err-rest-clause-kept : goal.returns-in_err-rest-clause-kept
 returns-in_err-rest-clause-kept c = extends_more _ _ _ c.loop-rest.invariant.kept c.in_err-rest.ensures.kept
+
+pub returns-in_err-rest-clause-err : goal.returns-in_err-rest-clause-err
+returns-in_err-rest-clause-err c =
+    on_err c.from_residual-in_err-rest.result
+    (text_begun c.args.line.now.items c.loop-rest.line.items _ c.loop-rest.rest.now c.args.text.now c.loop-rest.invariant.whole c.in_err-rest.ensures.err)
 
 pub loop-rest-preserved : goal.loop-rest-preserved
 loop-rest-preserved c = record {
