@@ -1,5 +1,7 @@
 //! A file that is made at its first write.
 
+ghost use Rattle.std.specs.Prelude.{◌≡◌, IsOk, IsSome, OnErr, OnOk};
+
 use std::fs;
 use std::io::{self, ErrorKind, Write};
 use std::rt::Files;
@@ -21,7 +23,12 @@ impl<'a, R: Files> Created<'a, R> {
         }
     }
 
-    fn create(&mut self) -> io::Result<()> {
+    /// Creates or empties the file, the first time that it succeeds.
+    fn create(&mut self) -> io::Result<()>
+        ensures made { OnOk result (IsSome self.new.file) }
+        ensures once { IsSome self.old.file → (self.new ≡ self.old) × IsOk result }
+        ensures err { OnErr result (self.new ≡ self.old) }
+    {
         if self.file.is_none() {
             self.file = Some(fs::create(self.rt, self.path)?);
         }
