@@ -1,5 +1,5 @@
 -- A step that is repeated as long as it takes something, for steps that take at least one byte.
-use Rattle.std.proofs.Common.{◌≡◌, ℕ, zero, suc, ◌<◌, ◌≤◌, List, [], ◌∷◌, ◌++◌, length, Option, Some, None, refl, sym, ap, ◌∙◌, arith, append_assoc}
+use Rattle.std.proofs.Common.{◌≡◌, ℕ, zero, suc, ◌<◌, ◌≤◌, List, [], ◌∷◌, ◌++◌, length, Option, Some, None, refl, sym, ap, ◌∙◌, arith, append_assoc, length-append}
 use Rattle.std.specs.Prelude.{IfSome}
 use Rattle.std.specs.Option.{option_map_or}
 use Rattle.std.proofs.lemmas.List.{append-nil}
@@ -57,6 +57,13 @@ pub ends : {A : Type 0} (step : List ℕ → Option (A × List ℕ)) → Shorten
     → following front (taken step bytes) ≡ whole → whole ≡ (front, bytes)
 ends {A} step short front bytes whole e so_far =
     sym so_far ∙ ap (following front) (taken_none step short bytes e) ∙ ap (λ (xs : List A). (xs, bytes)) (append-nil front)
+
+-- something is taken in all, where a step takes something after what was taken before
+pub one_taken : {A : Type 0} (step : List ℕ → Option (A × List ℕ)) → Shortens step → (front : List A) (bytes : List ℕ) (x : A) (rest : List ℕ) (whole : List A × List ℕ) → step bytes ≡ Some (x, rest)
+    → following front (taken step bytes) ≡ whole → 1 ≤ length whole.0
+one_taken {A} step short front bytes x rest whole e so_far =
+    let all = goes_on step short front bytes x rest whole e so_far in
+    omega (arith, ap (λ (t : List A × List ℕ). length t.0) all, length-append (front ++ x ∷ []) (taken step rest).0, length-append front (x ∷ []))
 
 -- no more is left than there was
 pub rest_le : {A : Type 0} (step : List ℕ → Option (A × List ℕ)) → Shortens step → (n : ℕ) (bytes : List ℕ) → length (repeated step n bytes).1 ≤ length bytes

@@ -3,10 +3,11 @@
 //! - A cutter that takes bytes one by one holds the line that the definition says (`push`), returns
 //!   it where it is complete (`line`), and otherwise what it has of it (`rest`). A new one holds
 //!   nothing (`new`): the contracts of `LineCutter`.
-//! - The words of a line are those of the definition, or one of them is not a word; only out of
-//!   memory may be answered instead: `words_of`. A line of a single word is read without memory:
-//!   `lone_word`. The text of a quoted word, and what follows blanks, are as defined: `text`,
-//!   `after_blanks`. `is_utf8` says whether bytes are UTF-8.
+//! - The words of a line are those of the definition, or something in it is not a word (`answer`);
+//!   out of memory may be answered in place of words, and of nothing else (`no_memory`): `words_of`.
+//!   A line of a single word is read without memory: `lone_word`. The text of a quoted word, and
+//!   what follows blanks, are as defined: `text`, `after_blanks`. `is_utf8` says whether bytes are
+//!   UTF-8.
 #![tactic(auto)]
 
 mod cutter;

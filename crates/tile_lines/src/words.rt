@@ -1,7 +1,8 @@
 //! The words of a line, each with the bytes where it is; the text of a quoted one.
 
-ghost use Rattle.std.specs.Prelude.{◌≡◌, ◌<◌, ◌≤◌, [], ◌∷◌, not, length, map, option_map, ok_or, Some, IfOk, IfSome, IfNone};
+ghost use Rattle.std.specs.Prelude.{◌≡◌, ◌<◌, ◌≤◌, [], ◌∷◌, not, length, map, option_map, ok_or, Some, IfOk, IfSome, IfNone, IsErr, IsSomeAnd};
 ghost use Rattle.std.specs.List.{position, position_or_len};
+ghost use Rattle.std.specs.Result.{IsErrOf};
 ghost use Rattle.tile_lines.specs.Words.{is_blank, ends_bare, after_blanks, ends_word, hex_byte, byte_at, text_at, quoted_at, bare_at, word_at, words_of, IsLoneWord};
 ghost use Rattle.tile_lines.specs.Answers.{Gives};
 ghost use Rattle.tile_lines.specs.declared.parse_error.ParseError.TheVariants.{BadWord};
@@ -115,7 +116,8 @@ fn after_text(bytes: &[u8]) -> &[u8]
 
 /// The text at the front, without its escapes.
 pub fn text(alloc: Global, bytes: &[u8]) -> Result<Vec<u8>, AllocError>
-    ensures { IfOk result (λ text. text.items ≡ (text_at bytes.now).0) }
+    ensures said { IfOk result (λ text. text.items ≡ (text_at bytes.now).0) }
+    ensures no_memory { IsErr result → 1 ≤ length (text_at bytes.now).0 }
 {
     let mut text = Vec::new(alloc);
     let mut rest = bytes;
@@ -175,20 +177,34 @@ pub fn lone_word(line: &[u8]) -> Option<Word<'_>>
     }
 }
 
-/// The words of a line.
-#[tactic(auto, unfolding(crate::specs::Words::words_of))]
-pub fn words_of(alloc: Global, line: &[u8]) -> Result<Vec<Word<'_>>, ParseError>
-    ensures { Gives (λ words. map word_of words.items) result (ok_or (words_of line.now) BadWord) }
+/// How many words a line has, where all that is in it are words.
+fn count_words(line: &[u8]) -> Option<usize>
+    ensures { result ≡ option_map length (words_of line.now) }
 {
-    let mut words = Vec::new(alloc);
+    let mut count = 0;
+    let mut rest = line;
+    while let Some((_, after)) = word_at(rest) {
+        count += 1;
+        rest = after;
+    }
+    after_blanks(rest).is_empty().then_some(count)
+}
+
+/// The words of a line.
+pub fn words_of(alloc: Global, line: &[u8]) -> Result<Vec<Word<'_>>, ParseError>
+    ensures answer { Gives (λ words. map word_of words.items) result (ok_or (words_of line.now) BadWord) }
+
+    // Memory never runs out for a line without words, or in which something is not a word.
+    ensures no_memory { IsErrOf result ParseError.NoMemory → IsSomeAnd (words_of line.now) (λ words. 1 ≤ length words) }
+{
+    let Some(count) = count_words(line) else {
+        return Err(ParseError::BadWord);
+    };
+    let mut words = Vec::with_capacity(alloc, count)?;
     let mut rest = line;
     while let Some((word, after)) = word_at(rest) {
         words.push(word)?;
         rest = after;
     }
-    if after_blanks(rest).is_empty() {
-        Ok(words)
-    } else {
-        Err(ParseError::BadWord)
-    }
+    Ok(words)
 }

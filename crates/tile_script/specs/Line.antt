@@ -1,11 +1,11 @@
 -- What a line of a script asks for.
-use Rattle.std.specs.Prelude.{◌≡◌, ℕ, ◌≤◌, Bool, true, false, not, List, [], ◌∷◌, ◌++◌, length, map, Option, Some, None, Result, Ok, Err, ◌==◌, nat_lt, slice_get, if◌then◌else◌, codes, ok_or}
+use Rattle.std.specs.Prelude.{◌≡◌, ℕ, ◌≤◌, Bool, true, false, not, List, [], ◌∷◌, ◌++◌, length, map, Option, Some, None, Result, Ok, Err, IsSomeAnd, ◌==◌, nat_lt, slice_get, if◌then◌else◌, codes, ok_or}
 use Rattle.std.specs.Option.{option_map_or}
 use Rattle.std.specs.Str.{is_utf8, IsUtf8}
 use Rattle.tile_arguments.specs.Arguments.{text_of, layer_of}
 use Rattle.mvt_meaning.specs.Requests.{HistoryRequest, Edit, Undo, Redo, SetMark, TakeMark, GoBack, Begin, End, Cancel}
 use Rattle.tile_arguments.specs.Request.{Request, OnHistory, ListMarks, PrintHistory, Size, Lists, Whole, OneLayer, OneFeature}
-use Rattle.tile_lines.specs.Words.{Word, Bare, IsLoneWord, after_blanks, words_of}
+use Rattle.tile_lines.specs.Words.{Word, Bare, after_blanks, words_of}
 use Rattle.tile_lines.specs.Answers.{◌>>=◌}
 use Rattle.tile_lines.specs.declared.TheConstants.{LINE_LIMIT}
 use Rattle.tile_script.specs.Commands.{chosen_of, read_by, command_by}
@@ -82,7 +82,11 @@ IsReadable line = (length line ≤ LINE_LIMIT) × IsUtf8 line
 abbrev pub IsAsking : List ℕ → Type 0
 IsAsking line = IsReadable line × (is_remark line ≡ false)
 
--- reading the line takes memory: it asks for something, and not by a single word; no other line is refused as out of
--- memory when it is read
+-- the line has two words or more, and nothing in it is not a word
+abbrev pub HasSeveralWords : List ℕ → Type 0
+HasSeveralWords line = IsSomeAnd (words_of line) (λ words. 2 ≤ length words)
+
+-- reading the line takes memory: it asks for something, by two words or more; no other line is refused as out of memory
+-- when it is read
 abbrev pub TakesMemory : List ℕ → Type 0
-TakesMemory line = IsAsking line × ¬ IsLoneWord line
+TakesMemory line = IsAsking line × HasSeveralWords line

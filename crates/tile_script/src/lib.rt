@@ -2,8 +2,9 @@
 //!
 //! - A line asks for what its definition says, or is refused for the first of its faults; only out
 //!   of memory may be answered instead (`answer`), and never to a line that is too long or not
-//!   UTF-8, a blank line, a comment or a single word (`no_memory`): `parse_line`, and `parse_cut`
-//!   for a line as it was cut, or the one that a cut holds (`line`, `line_no_memory`).
+//!   UTF-8, a blank line, a comment, a single word, or a line in which something is not a word
+//!   (`no_memory`): `parse_line`, and `parse_cut` for a line as it was cut, or the one that a cut
+//!   holds (`line`, `line_no_memory`).
 #![tactic(auto)]
 
 mod commands;

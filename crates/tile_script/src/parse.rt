@@ -5,9 +5,8 @@ ghost use Rattle.std.specs.Result.{IsErrOf};
 ghost use Rattle.tile_lines.specs.Cutting.{cut_of, Whole};
 ghost use Rattle.tile_lines.specs.CutStands.{cut_seen};
 ghost use Rattle.tile_arguments.specs.RequestStands.{request_of};
-ghost use Rattle.tile_script.specs.Line.{request_in, is_remark, answer_to, TakesMemory};
+ghost use Rattle.tile_script.specs.Line.{request_in, is_remark, answer_to, HasSeveralWords, TakesMemory};
 ghost use Rattle.tile_lines.specs.Answers.{Gives};
-ghost use Rattle.tile_lines.specs.Words.{IsLoneWord};
 
 use crate::requests::request;
 use std::alloc::Global;
@@ -19,8 +18,8 @@ use tile_lines::{Cut, LINE_LIMIT, ParseError, after_blanks, is_utf8, lone_word, 
 pub fn parse_line(alloc: Global, line: &[u8]) -> Result<Option<Request>, ParseError>
     ensures answer { Gives (option_map request_of) result (answer_to line.now) }
 
-    // Memory never runs out for a line that is too long or not UTF-8, a blank line, a comment or a
-    // single word.
+    // Memory never runs out for a line that is too long or not UTF-8, a blank line, a comment, a
+    // single word, or a line in which something is not a word.
     ensures no_memory { IsErrOf result ParseError.NoMemory → TakesMemory line.now }
 {
     if line.len() > LINE_LIMIT {
@@ -70,7 +69,7 @@ fn is_remark(line: &[u8]) -> bool
 #[tactic(auto, unfolding(crate::specs::Line::request_in))]
 fn request_in(alloc: Global, line: &[u8]) -> Result<Request, ParseError>
     ensures answer { Gives request_of result (request_in line.now) }
-    ensures no_memory { IsErrOf result ParseError.NoMemory → ¬ IsLoneWord line.now }
+    ensures no_memory { IsErrOf result ParseError.NoMemory → HasSeveralWords line.now }
 {
     if let Some(word) = lone_word(line) {
         return request(alloc, &[word]);
