@@ -5,7 +5,7 @@ use Rattle.std.specs.List.{find}
 use Rattle.std.specs.Str.{bytes_eq}
 use Rattle.mvt_geometry.specs.declared.shapes.Point.{Point}
 use Rattle.mvt_geometry.specs.declared.shapes.Kind.{Kind}
-use Rattle.mvt_meaning.specs.Command.{AtOrdinal, Named, TheLayer, EachLayer, FeatureAtOrdinal, WithId}
+use Rattle.mvt_meaning.specs.Command.{AtOrdinal, Named, EachLayer, FeatureAtOrdinal, WithId}
 use Rattle.tile_lines.specs.Words.{Word, Bare, Quoted}
 use Rattle.tile_lines.specs.Answers.{◌>>=◌}
 use Rattle.tile_lines.specs.declared.parse_error.ParseError.{ParseError}

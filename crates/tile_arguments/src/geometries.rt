@@ -1,6 +1,6 @@
 //! Geometries, each by the name of its kind and its points.
 
-ghost use Rattle.std.specs.Prelude.{◌≡◌, ◌==◌, ◌||◌, is_ok, IsOk, map, position};
+ghost use Rattle.std.specs.Prelude.{◌≡◌, ◌≤◌, ◌==◌, ◌||◌, is_ok, IsOk, length, map, position};
 ghost use Rattle.std.specs.List.{AllByRecursion, list_all};
 ghost use Rattle.std.specs.Result.{IsErrOf};
 ghost use Rattle.mvt_geometry.specs.Shapes.{IsPlaced};
@@ -105,7 +105,8 @@ fn is_bar(word: Word<'_>) -> bool
 /// A part with these points.
 #[tactic(auto, unfolding(crate::specs::Arguments::part_of))]
 fn part(alloc: Global, words: &[Word<'_>]) -> Result<Part, ParseError>
-    ensures { Gives points_of result (part_of (map word_of words.now)) }
+    ensures answer { Gives points_of result (part_of (map word_of words.now)) }
+    ensures no_memory { IsErrOf result ParseError.NoMemory → 1 ≤ length words.now }
 {
     let mut points = Vec::with_capacity(alloc, words.len())?;
     for word in words {

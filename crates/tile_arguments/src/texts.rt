@@ -1,6 +1,6 @@
 //! Texts: quoted, or in hexadecimal digits.
 
-ghost use Rattle.std.specs.Prelude.{◌≡◌, is_ok, is_some, IfOk, IsErr, IsOk, IsSome, map, option_map};
+ghost use Rattle.std.specs.Prelude.{◌≡◌, ◌≤◌, is_ok, is_some, IfOk, IsErr, IsOk, IsSome, length, map, option_map};
 ghost use Rattle.std.specs.List.{list_all};
 ghost use Rattle.std.specs.Result.{IsErrOf};
 ghost use Rattle.hex.specs.Hex.{is_hex_digit};
@@ -26,7 +26,7 @@ pub fn text_argument(alloc: Global, word: Word<'_>) -> Result<Items<u8>, ParseEr
 #[tactic(auto, using(crate::proofs::Judged::texts_said))]
 pub fn text_arguments(alloc: Global, words: &[Word<'_>]) -> Result<Items<Items<u8>>, ParseError>
     ensures answer { Gives (λ texts. map (λ text. text.items) texts.items) result (texts_of (map word_of words.now)) }
-    ensures no_memory { IsErrOf result ParseError.NoMemory → IsOk (texts_of (map word_of words.now)) }
+    ensures no_memory { IsErrOf result ParseError.NoMemory → (1 ≤ length words.now) × IsOk (texts_of (map word_of words.now)) }
 {
     if !are_texts(words) {
         return Err(ParseError::BadArguments);

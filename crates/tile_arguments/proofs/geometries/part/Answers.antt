@@ -14,15 +14,15 @@ pub loop-word-preserved : goal.loop-word-preserved
 loop-word-preserved c =
     rw c.in_ok-push.ensures.items (onto_next read c.args.words.now c.loop-word.word-index _ c.loop-word.points.items c.in_ok-point.field-0 c.loop-word-test.true (sym c.in_ok-point.ensures) c.loop-word.invariant)
 
-pub returns-in_err-point : goal.returns-in_err-point
+pub returns-in_err-point-clause-answer : goal.returns-in_err-point-clause-answer
 unfolding part_of
-returns-in_err-point c =
+returns-in_err-point-clause-answer c =
     let refused : c.from_residual-in_err-point.result ≡ Err c.in_err-point.field-0.0 = search rules in
     rw refused (inr (each-map point_of word_of c.args.words.now ∙ onto_stops read c.args.words.now c.loop-word.word-index _ c.loop-word.points.items c.in_err-point.field-0.0 c.loop-word-test.true (sym c.in_err-point.ensures) c.loop-word.invariant))
 
-pub returns : goal.returns
+pub returns-clause-answer : goal.returns-clause-answer
 unfolding part_of
-returns c =
+returns-clause-answer c =
     each-map point_of word_of c.args.words.now
     ∙ onto_all read c.args.words.now c.loop-word.word-index c.loop-word.points.items c.loop-word-test.false c.loop-word.invariant
     ∙ ap (λ (points : List Point). Ok points) (sym c.from_vec.ensures.items)

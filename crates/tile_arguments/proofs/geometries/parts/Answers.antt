@@ -37,7 +37,7 @@ loop-group-preserved c =
     let chain = YieldsList-from_slice_split _ ends c.args.words.now (cc) (cc) (cc) (λ x r q k. search rules) in
     let turn = YieldsList-turn chain c.loop-group.yielded _ c.loop-group.yielded_by _ _ c.in-Some.group c.in-Some.is c.next.ensures.steps in
     let parts : map points_of c.push.new.self.items ≡ map points_of c.loop-group.parts.items ++ points_of c.in_ok-part.field-0 ∷ [] = rw c.in_ok-push.ensures.items (map_push points_of c.loop-group.parts.items c.in_ok-part.field-0) in
-    rw (parts, length_push c.loop-group.yielded c.in-Some.group) (onto_next read (groups c.args.words.now) (length c.loop-group.yielded) c.in-Some.group.now (map points_of c.loop-group.parts.items) (points_of c.in_ok-part.field-0) turn.0 (ap read (sym turn.1) ∙ c.in_ok-part.ensures) c.loop-group.invariant)
+    rw (parts, length_push c.loop-group.yielded c.in-Some.group) (onto_next read (groups c.args.words.now) (length c.loop-group.yielded) c.in-Some.group.now (map points_of c.loop-group.parts.items) (points_of c.in_ok-part.field-0) turn.0 (ap read (sym turn.1) ∙ c.in_ok-part.ensures.answer) c.loop-group.invariant)
 
 pub returns-in_err-part-clause-answer : goal.returns-in_err-part-clause-answer
 unfolding parts_of
@@ -45,7 +45,7 @@ returns-in_err-part-clause-answer c =
     let refused : c.from_residual.result ≡ Err c.in_err-part.field-0.0 = search rules in
     let chain = YieldsList-from_slice_split _ ends c.args.words.now (cc) (cc) (cc) (λ x r q k. search rules) in
     let turn = YieldsList-turn chain c.loop-group.yielded _ c.loop-group.yielded_by _ _ c.in-Some.group c.in-Some.is c.next.ensures.steps in
-    rw refused (elim c.in_err-part.ensures [
+    rw refused (elim c.in_err-part.ensures.answer [
       | inl short_of_memory ↦ inl short_of_memory
       | inr e ↦ inr (plain_groups c.args.words.now ∙ onto_stops read (groups c.args.words.now) (length c.loop-group.yielded) c.in-Some.group.now (map points_of c.loop-group.parts.items) c.in_err-part.field-0.0 turn.0 (ap read (sym turn.1) ∙ e) c.loop-group.invariant)
     ])

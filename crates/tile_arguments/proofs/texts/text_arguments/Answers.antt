@@ -1,4 +1,4 @@
-use Rattle.std.proofs.Common.{◌≡◌, ℕ, inl, inr, List, [], ◌∷◌, ◌++◌, map, Result, Ok, Err, sym, ap, ◌∙◌, rules}
+use Rattle.std.proofs.Common.{◌≡◌, ℕ, inl, inr, List, [], ◌∷◌, ◌++◌, map, Result, Ok, Err, sym, ap, ◌∙◌, rules, arith}
 use Rattle.std.proofs.lemmas.List.{map_push}
 use Rattle.tile_lines.specs.declared.words.Word.{Word}
 use Rattle.tile_lines.specs.declared.parse_error.ParseError.{ParseError}
@@ -38,10 +38,10 @@ returns-then-not-are_texts-clause-answer c =
     inr (only_refused BadArguments (texts_of (map word_of c.args.words.now)) (texts_only (map word_of c.args.words.now)) (texts_said c.args.words.now ∙ sym c.are_texts.ensures ∙ c.if-not-are_texts.true))
 
 pub returns-in_err-texts-clause-no_memory : goal.returns-in_err-texts-clause-no_memory
-returns-in_err-texts-clause-no_memory c = λ memory. texts_said c.args.words.now ∙ sym c.are_texts.ensures ∙ c.if-not-are_texts.false
+returns-in_err-texts-clause-no_memory c = λ memory. (grind arith, texts_said c.args.words.now ∙ sym c.are_texts.ensures ∙ c.if-not-are_texts.false)
 
 pub returns-in_err-text_argument-clause-no_memory : goal.returns-in_err-text_argument-clause-no_memory
-returns-in_err-text_argument-clause-no_memory c = λ memory. texts_said c.args.words.now ∙ sym c.are_texts.ensures ∙ c.if-not-are_texts.false
+returns-in_err-text_argument-clause-no_memory c = λ memory. (grind arith, texts_said c.args.words.now ∙ sym c.are_texts.ensures ∙ c.if-not-are_texts.false)
 
 pub returns-in_err-push-clause-no_memory : goal.returns-in_err-push-clause-no_memory
-returns-in_err-push-clause-no_memory c = λ memory. texts_said c.args.words.now ∙ sym c.are_texts.ensures ∙ c.if-not-are_texts.false
+returns-in_err-push-clause-no_memory c = λ memory. (grind arith, texts_said c.args.words.now ∙ sym c.are_texts.ensures ∙ c.if-not-are_texts.false)
