@@ -4,7 +4,8 @@ ghost use Rattle.std.specs.Prelude.{◌≡◌, Some, None, IfOk, is_some};
 ghost use Rattle.std.specs.Result.{IsErrOf};
 ghost use Rattle.mvt_messages.specs.Numbers.{numbers};
 ghost use Rattle.mvt_messages.specs.Seen.{number_seen};
-ghost use Rattle.mvt_geometry.specs.Shapes.{Geometry as PlainGeometry};
+ghost use Rattle.mvt_messages.specs.Views.{kind_of};
+ghost use Rattle.mvt_geometry.specs.Shapes.{Geometry as PlainGeometry, kind_number};
 ghost use Rattle.mvt_view.specs.FeatureGeometry.{HasFeatureGeometry, integer_in, integers_in};
 ghost use Rattle.mvt_layers.specs.Seen.{feature_seen};
 
@@ -19,6 +20,7 @@ pub fn geometry(alloc: Global, feature: &FeatureView) -> Result<Geometry, Geomet
     ensures found { IfOk result (HasFeatureGeometry (feature_seen feature.now)) }
     ensures bad { IsErrOf result GeometryError.BadGeometry → (geometry : PlainGeometry) → HasFeatureGeometry (feature_seen feature.now) geometry → ⊥ }
     ensures unreadable { integers_in (numbers 4 (feature_seen feature.now).fields) ≡ None → IsErrOf result GeometryError.BadGeometry }
+    ensures no_kind { ((k : Kind) → kind_number k ≡ kind_of (feature_seen feature.now) → ⊥) → IsErrOf result GeometryError.BadGeometry }
 {
     let kind = feature.kind();
     if Kind::from_number(kind).is_none() {

@@ -3,7 +3,8 @@
 //!
 //! - The geometry of a feature is read from its numbers, for its kind (`found`), and refused only
 //!   if there is none (`bad`): a chunk is bad, or the numbers are not those of a geometry of the
-//!   kind. Only an out-of-memory error may come in place of either: `geometry`.
+//!   kind. Only an out-of-memory error may come in place of either, and not if a number can't be
+//!   read (`unreadable`) or the kind is none (`no_kind`): `geometry`.
 //!
 //! `geometry` takes an allocator. The crate re-exports the names of `mvt_layers`, which has the
 //! views, and most of those of `mvt_messages` and of `mvt_geometry`, so it has everything that is
