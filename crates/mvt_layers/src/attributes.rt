@@ -1,8 +1,11 @@
 //! `pairs`: the tags of a feature in pairs.
 
-ghost use Rattle.std.specs.Prelude.{◌≡◌, Some, None, map, IfOk};
+ghost use Rattle.std.specs.Prelude.{◌≡◌, Some, None, length, map, slice_get, IfOk, IsOk, IsSomeAnd};
 ghost use Rattle.std.specs.Result.{IsErrOf};
 ghost use Rattle.mvt_messages.specs.Attributes.{pairs_of};
+ghost use Rattle.mvt_messages.specs.Numbers.{numbers};
+ghost use Rattle.mvt_messages.specs.Tags.{tag_pairs};
+ghost use Rattle.mvt_messages.specs.Views.{keys, values};
 ghost use Rattle.mvt_layers.specs.Seen.{feature_seen, layer_seen, pair_seen};
 ghost use Rattle.mvt_layers.specs.declared.attributes.PairsError.TheVariants.{BadTags, NoMemory};
 
@@ -54,7 +57,7 @@ impl<T: Drop> From<AllocFailed<T>> for PairsError {
 }
 
 /// The pairs that the tags of a feature of this layer make. The layer's keys and values are counted once, before
-/// the tags are read.
+/// the tags are read. No memory is asked for before the first pair is read.
 pub fn pairs(
     alloc: Global,
     layer: &LayerView,
@@ -62,6 +65,7 @@ pub fn pairs(
 ) -> Result<Items<Pair>, PairsError>
     ensures pairs { IfOk result (λ pairs. pairs_of (layer_seen layer.now) (feature_seen feature.now) ≡ Some (map pair_seen pairs.items)) }
     ensures bad_tags { IsErrOf result PairsError.BadTags → pairs_of (layer_seen layer.now) (feature_seen feature.now) ≡ None }
+    ensures no_memory { IsErrOf result PairsError.NoMemory → IsSomeAnd (slice_get (tag_pairs (length (keys (layer_seen layer.now))) (length (values (layer_seen layer.now))) (numbers 2 (feature_seen feature.now).fields)) 0) IsOk }
 {
     let mut pairs = Vec::new(alloc);
     for tags in feature.tag_pairs(layer.pool_sizes()) {

@@ -21,7 +21,8 @@
 //!   bits. The keys and the values are counted once for a layer: `LayerView::pool_sizes`,
 //!   `FeatureView::tag_pairs`.
 //! - The same pairs in a list (`pairs`), refused only if one is an error (`bad_tags`). Only an
-//!   out-of-memory error may come in place of either: `pairs`.
+//!   out-of-memory error may come in place of either, and not before the first pair (`no_memory`):
+//!   `pairs`.
 //!
 //! Only `pairs` takes an allocator. The crate re-exports the names of `mvt_messages`, which defines
 //! what the messages say; the geometry of a feature is read in `mvt_view`. A value is returned as

@@ -1,4 +1,5 @@
-use Rattle.std.proofs.Common.{◌≡◌, ℕ, List, [], ◌∷◌, ◌++◌, Ok, map, option_map, sym, ap, ◌∙◌}
+use Rattle.std.proofs.Common.{◌≡◌, ℕ, List, [], ◌∷◌, ◌++◌, Ok, map, option_map, slice_get, refl, subst, sym, ap, ◌∙◌}
+use Rattle.std.specs.Prelude.{IsOk, IsSomeAnd}
 use Rattle.std.proofs.lemmas.List.{map_push}
 use Rattle.mvt_messages.specs.Numbers.{and_more}
 use Rattle.mvt_messages.specs.Seen.{placed_of}
@@ -11,10 +12,13 @@ pub loop-tags-init : goal.loop-tags-init
 loop-tags-init c =
     let sizes = c.pool_sizes.ensures in
     let items = c.into_iter-tags-iterator.ensures.into_iter_gives ∙ rw (sizes.keys, sizes.values) at c.tag_pairs-tags-items.ensures in
-    ap (λ (list : List _). option_map (λ rest. map pair_seen list ++ rest) (plain_pairs c.into_iter-tags-iterator.result)) c.new-pairs.ensures.items
-    ∙ done_none (plain_pairs c.into_iter-tags-iterator.result)
-    ∙ ap plain_pairs items
-    ∙ tags_are_pairs (layer_seen c.args.layer.now) (feature_seen c.args.feature.now)
+    record {
+      made = ap (λ (list : List _). option_map (λ rest. map pair_seen list ++ rest) (plain_pairs c.into_iter-tags-iterator.result)) c.new-pairs.ensures.items
+          ∙ done_none (plain_pairs c.into_iter-tags-iterator.result)
+          ∙ ap plain_pairs items
+          ∙ tags_are_pairs (layer_seen c.args.layer.now) (feature_seen c.args.feature.now);
+      first = subst (λ tags. IsSomeAnd (slice_get tags 0) IsOk) items;
+    }
 
 pub loop-tags-preserved : goal.loop-tags-preserved
 loop-tags-preserved c =
@@ -25,7 +29,10 @@ loop-tags-preserved c =
     let step : plain_pairs c.loop-tags.tags-iterator ≡ and_more (pair_seen found.pair) rest =
     ap plain_pairs front ∙ plain_more (pair_seen found.pair, (placed_of found.key, placed_of found.value)) c.next.new.self in
     let pushed : map pair_seen c.push.new.self.items ≡ done ++ pair_seen found.pair ∷ [] = ap (map pair_seen) c.in_ok-push.ensures.items ∙ map_push pair_seen c.loop-tags.pairs.items found.pair in
-    ap (λ (front : List (ℕ × ℕ)). option_map (λ rest. front ++ rest) rest) pushed
-    ∙ sym (done_more done (pair_seen found.pair) rest)
-    ∙ ap (option_map (λ rest. done ++ rest)) (sym step)
-    ∙ c.loop-tags.invariant
+    record {
+      made = ap (λ (front : List (ℕ × ℕ)). option_map (λ rest. front ++ rest) rest) pushed
+          ∙ sym (done_more done (pair_seen found.pair) rest)
+          ∙ ap (option_map (λ rest. done ++ rest)) (sym step)
+          ∙ c.loop-tags.invariant.made;
+      first = λ is. c.loop-tags.invariant.first (subst (λ tags. IsSomeAnd (slice_get tags 0) IsOk) (sym front) refl);
+    }
