@@ -353,7 +353,7 @@ def answers_to(state, line, content):
     try:
         words = words_of(content)
     except Refused as refused:
-        return [refusal(line, state, refused.number), refusal(line, state, 60)]
+        return [refusal(line, state, refused.number)]
     first = plain(state, line, words)
     out_of_memory = [refusal(line, state, 60)] if may_run_out(state, words, first) else []
     stopped = [] if first.refusal else stops(state, line, words[0].text, first.state)
