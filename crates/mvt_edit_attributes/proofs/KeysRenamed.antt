@@ -1,8 +1,11 @@
 -- What the steps that rename the keys of a layer result in.
-use Rattle.std.proofs.Common.{◌≡◌, ℕ, ◌*◌, ◌/◌, ◌≤◌, ◌==◌, Bool, true, false, not, Ok, Err, Some, List, [], ◌∷◌, length, map, filter, nat_lt, slice_get, refl, sym, ap, ◌∙◌, subst, inl, inr, arith}
-use Rattle.std.specs.Prelude.{◌&&◌, IfSome, if◌then◌else◌}
-use Rattle.std.proofs.lemmas.Bool.{cases_Bool, or_parts}
-use Rattle.std.proofs.lemmas.List.{length-map}
+use Rattle.std.proofs.Common.{◌≡◌, ℕ, ◌+◌, ◌*◌, ◌/◌, ◌≤◌, ◌==◌, Bool, true, false, not, Ok, Err, Option, Some, List, [], ◌∷◌, ◌++◌, length, length-append, max, map, filter, nat_lt, slice_get, refl, sym, ap, ◌∙◌, subst, inl, inr, arith}
+use Rattle.std.specs.Prelude.{◌&&◌, ◌||◌, IfSome, if◌then◌else◌}
+use Rattle.std.proofs.lemmas.Bool.{cases_Bool, or_left, or_parts, or_right}
+use Rattle.std.proofs.lemmas.List.{length-map, map-append}
+use Rattle.std.proofs.lemmas.List.Elements.{filter-append}
+use Rattle.std.proofs.lemmas.List.Folds.{flat_map-map, list_any-append}
+use Rattle.std.proofs.Math.Bool.{or-false}
 use Rattle.std.proofs.lemmas.Slice.Eq.{bytes_eq-Decides}
 use Rattle.std.specs.List.{AllByRecursion, flat_map, list_any}
 use Rattle.std.specs.Result.{result_unwrap_or}
@@ -10,8 +13,10 @@ use Rattle.std.specs.Str.{bytes_eq}
 use Rattle.mvt_document.specs.declared.TheConstants.{MAX_FILE}
 use Rattle.mvt_document.specs.Plain.{Number, Body, Spelled, Eight, Four, Delimited, Group, LayerItem, OfFeature, PlainInLayer, Layer, OfLayer, Document}
 use Rattle.mvt_document.specs.Opens.{IsLayerItem}
-use Rattle.mvt_document.specs.Wire.{bytes_of, layer_item_bytes}
+use Rattle.mvt_document.specs.Wire.{bytes_of, layer_item_bytes, minimal_width}
 use Rattle.mvt_document.specs.Places.{change_items, items_at}
+use Rattle.mvt_document.proofs.Sizes.{length-message, same_size}
+use Rattle.mvt_document.proofs.Beside.{pushed_size}
 use Rattle.mvt_change.specs.Changes.{Change}
 use Rattle.mvt_change.specs.FileSizes.{IsFileSize}
 use Rattle.mvt_change.proofs.Resized.{items_there}
@@ -108,12 +113,72 @@ by_size : (large : Bool) → refuse_if large TooLarge ≡ (if not large then Ok 
 by_size true = refl
 by_size false = refl
 
+-- a LEN field of a layer takes its tag, the length and as many bytes as the new ones are
+pub length-renamed : (value wide width : ℕ) (item : LayerItem) (old new : List ℕ) → item ≡ PlainInLayer (record { tag = record { value = value; width = wide }; body = Delimited width old }) → wide + (max width (minimal_width (length new)) + length new) ≡ length (layer_item_bytes (with_text new item))
+length-renamed value wide width item old new is = rw is (sym (length-message value wide width new))
+
+-- one more item, which is the old key
+module _ (old new : List ℕ) (items : List LayerItem) (x : LayerItem) (key : is_key old x ≡ true) where
+  keys_more : filter (is_key old) (items ++ x ∷ []) ≡ filter (is_key old) items ++ x ∷ []
+  keys_more = filter-append (is_key old) items (x ∷ []) ∙ rw key refl
+
+  gone_more : length (flat_map layer_item_bytes (filter (is_key old) items)) + length (layer_item_bytes x) ≡ length (flat_map layer_item_bytes (filter (is_key old) (items ++ x ∷ [])))
+  gone_more = sym (ap (λ xs. length (flat_map layer_item_bytes xs)) keys_more ∙ pushed_size layer_item_bytes (filter (is_key old) items) x)
+
+  come_more : length (flat_map layer_item_bytes (map (with_text new) (filter (is_key old) items))) + length (layer_item_bytes (with_text new x)) ≡ length (flat_map layer_item_bytes (map (with_text new) (filter (is_key old) (items ++ x ∷ []))))
+  come_more =
+      let renamed = ap (map (with_text new)) keys_more ∙ map-append (with_text new) (filter (is_key old) items) (x ∷ []) in
+      sym (ap (λ xs. length (flat_map layer_item_bytes xs)) renamed ∙ pushed_size layer_item_bytes (map (with_text new) (filter (is_key old) items)) (with_text new x))
+
+  there_more : true ≡ list_any (is_key old) (items ++ x ∷ [])
+  there_more = sym (list_any-append (is_key old) items (x ∷ []) ∙ or_right (list_any (is_key old) items) _ (or_left (is_key old x) false key))
+
+  pub key_found : (keys : Keys) (taken : Bool) (gone come : Option ℕ) → FindsKeys old new items keys → taken ≡ (keys.taken || is_key new x)
+      → IsFileSize gone (length (flat_map layer_item_bytes (filter (is_key old) items)) + length (layer_item_bytes x))
+      → IsFileSize come (length (flat_map layer_item_bytes (map (with_text new) (filter (is_key old) items))) + length (layer_item_bytes (with_text new x)))
+      → FindsKeys old new (items ++ x ∷ []) (record { there = true; taken = taken; gone = gone; come = come })
+  key_found keys taken gone come finds is_new goes comes = record {
+    old_there = there_more;
+    new_there = is_new ∙ ap (λ taken. taken || is_key new x) finds.new_there ∙ ap (λ more. list_any (is_key new) items || more) (sym (or-false (is_key new x))) ∙ sym (list_any-append (is_key new) items (x ∷ []));
+    old_size = same_size MAX_FILE gone _ _ gone_more goes;
+    new_size = same_size MAX_FILE come _ _ come_more comes;
+  }
+
+-- the items that pass a test and the others
+module _ {T : Type 0} (bytes : T → List ℕ) (test : T → Bool) where
+  -- make up the whole
+  parted_size : (items : List T) → length (flat_map bytes items) ≡ length (flat_map bytes (filter (λ x. not (test x)) items)) + length (flat_map bytes (filter test items))
+  parted_size [] = refl
+  parted_size (x ∷ items) =
+      let more = parted_size items in
+      let whole = length-append (bytes x) (flat_map bytes items) in
+      elim (cases_Bool (test x)) [
+        | inl pass ↦ rw pass (omega (arith, more, whole, length-append (bytes x) (flat_map bytes (filter test items))))
+        | inr other ↦ rw other (omega (arith, more, whole, length-append (bytes x) (flat_map bytes (filter (λ y. not (test y)) items))))
+      ]
+
+  -- what is left of the whole
+  pub others_size : {A : Type 0} (g : A → T) (items : List A) (sum gone : ℕ) → sum ≡ length (flat_map (λ a. bytes (g a)) items) → gone ≡ length (flat_map bytes (filter test (map g items))) → sum ≡ length (flat_map bytes (filter (λ x. not (test x)) (map g items))) + gone
+  others_size g items sum gone whole goes = whole ∙ ap length (sym (flat_map-map bytes g items)) ∙ parted_size (map g items) ∙ ap (λ n. length (flat_map bytes (filter (λ x. not (test x)) (map g items))) + n) (sym goes)
+
+  -- also where those that pass are changed
+  changed_size : (change : T → T) (items : List T) → length (flat_map bytes (filter (λ x. not (test x)) items)) + length (flat_map bytes (map change (filter test items))) ≡ length (flat_map bytes (map (λ x. if test x then change x else x) items))
+  changed_size change [] = refl
+  changed_size change (x ∷ items) =
+      let more = changed_size change items in
+      let whole : List T → List T = map (λ y. if test y then change y else y) in
+      elim (cases_Bool (test x)) [
+        | inl pass ↦ rw pass (omega (arith, more, length-append (bytes (change x)) (flat_map bytes (whole items)), length-append (bytes (change x)) (flat_map bytes (map change (filter test items)))))
+        | inr other ↦ rw other (omega (arith, more, length-append (bytes x) (flat_map bytes (whole items)), length-append (bytes x) (flat_map bytes (filter (λ y. not (test y)) items))))
+      ]
+
 -- what the walk over the items and the size of the tile decide
-pub may_rename_by : (old new : List ℕ) (position : ℕ) (layer : Layer) (document : Document) (keys : Keys) (fits : Bool) → slice_get document position ≡ Some (OfLayer layer) → FindsKeys old new layer.items keys → not keys.there ≡ false → (keys.taken && not (bytes_eq old new)) ≡ false → ((change : List LayerItem → List LayerItem) → IfSome (items_at position document) (λ items. IsFileSize keys.size (length (flat_map layer_item_bytes (change items)))) → fits ≡ not (nat_lt MAX_FILE (length (bytes_of (change_items change position document))))) → may_rename old new position layer.items document ≡ (if fits then Ok tt else Err TooLarge)
-may_rename_by old new position layer document keys fits at finds there free fit =
+pub may_rename_by : (old new : List ℕ) (position : ℕ) (layer : Layer) (document : Document) (keys : Keys) (size : Option ℕ) (fits : Bool) → slice_get document position ≡ Some (OfLayer layer) → FindsKeys old new layer.items keys → IsFileSize size (length (flat_map layer_item_bytes (filter (λ x. not (is_key old x)) layer.items)) + length (flat_map layer_item_bytes (map (with_text new) (filter (is_key old) layer.items)))) → not keys.there ≡ false → (keys.taken && not (bytes_eq old new)) ≡ false → ((change : List LayerItem → List LayerItem) → IfSome (items_at position document) (λ items. IsFileSize size (length (flat_map layer_item_bytes (change items)))) → fits ≡ not (nat_lt MAX_FILE (length (bytes_of (change_items change position document))))) → may_rename old new position layer.items document ≡ (if fits then Ok tt else Err TooLarge)
+may_rename_by old new position layer document keys size fits at finds sized there free fit =
     let has : not (list_any (is_key old) layer.items) ≡ false = ap not (sym finds.old_there) ∙ there in
     let apart : (list_any (is_key new) layer.items && not (bytes_eq old new)) ≡ false = ap (λ taken. taken && not (bytes_eq old new)) (sym finds.new_there) ∙ free in
-    let answered = fit (renamed_keys old new) (items_there position document layer (λ items. IsFileSize keys.size (length (flat_map layer_item_bytes (renamed_keys old new items)))) at finds.renamed_size) in
+    let renamed = same_size MAX_FILE size _ _ (changed_size layer_item_bytes (is_key old) (with_text new) layer.items) sized in
+    let answered = fit (renamed_keys old new) (items_there position document layer (λ items. IsFileSize size (length (flat_map layer_item_bytes (renamed_keys old new items)))) at renamed) in
     rw (has, apart, answered) (by_size (nat_lt MAX_FILE (length (bytes_of (change_items (renamed_keys old new) position document)))))
 
 -- a check that passes has found no other key of the new bytes

@@ -9,6 +9,7 @@ mod NoneLost
 mod EachFeature
 mod Untagged
 mod KeyFields
+mod KeysInRun
 mod KeysRenamed
 mod Deciding
 mod PairsLost

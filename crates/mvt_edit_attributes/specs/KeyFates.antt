@@ -1,6 +1,6 @@
 -- What becomes of the items of a layer whose keys are renamed, and what a walk over them finds of two keys.
-use Rattle.std.specs.Prelude.{◌≡◌, ℕ, List, Result, length, nat_lt, not, ◌&&◌, if◌then◌else◌}
-use Rattle.std.specs.List.{flat_map, list_any}
+use Rattle.std.specs.Prelude.{◌≡◌, ℕ, List, Result, length, map, nat_lt, not, ◌&&◌, if◌then◌else◌}
+use Rattle.std.specs.List.{filter, flat_map, list_any}
 use Rattle.std.specs.Str.{bytes_eq}
 use Rattle.mvt_document.specs.declared.TheConstants.{MAX_FILE}
 use Rattle.mvt_document.specs.Plain.{LayerItem, Document}
@@ -20,12 +20,13 @@ use Rattle.mvt_edit_attributes.specs.declared.rename_key.Keys.{Keys}
 abbrev pub key_fate : List ℕ → List ℕ → LayerItem → Fate LayerItem
 key_fate old new item = if is_key old item then Becomes (with_text new item) else Stays
 
--- whether the old key and the new one are among the items, and what size the items have with the new one in place of
--- the old one (tiles 4.1)
+-- whether the old key and the new one are among the items, how many bytes the keys that are the old one take, and how
+-- many these take with the bytes of the new one (tiles 4.1)
 pub record FindsKeys (old new : List ℕ) (items : List LayerItem) (keys : Keys) : Type 0 where
   pub old_there : keys.there ≡ list_any (is_key old) items
   pub new_there : keys.taken ≡ list_any (is_key new) items
-  pub renamed_size : IsFileSize keys.size (length (flat_map layer_item_bytes (renamed_keys old new items)))
+  pub old_size : IsFileSize keys.gone (length (flat_map layer_item_bytes (filter (is_key old) items)))
+  pub new_size : IsFileSize keys.come (length (flat_map layer_item_bytes (map (with_text new) (filter (is_key old) items))))
 
 -- whether the keys of the layer with these items, at this position, can be renamed: the old key is there, the new one is
 -- not, unless it is the old one, and the tile that results has at most 67,108,864 bytes; or the refusal (tiles 4.1)

@@ -1,7 +1,7 @@
 //! The keys of a layer that have some bytes get other bytes.
 
-ghost use Rattle.std.specs.Prelude.{◌≡◌, ℕ, ◌+◌, List, [], ◌∷◌, ◌++◌, IfOk, IfSome, Some, is_some, length, map, slice_get};
-ghost use Rattle.std.specs.List.{flat_map};
+ghost use Rattle.std.specs.Prelude.{◌≡◌, ℕ, ◌+◌, List, [], ◌∷◌, ◌++◌, IfOk, IfSome, Some, is_some, length, map, not, slice_get};
+ghost use Rattle.std.specs.List.{filter, flat_map};
 ghost use Rattle.mvt_document.specs.Plain as plain;
 ghost use Rattle.mvt_document.specs.Bodies.{number_of};
 ghost use Rattle.mvt_document.specs.Stands.{document_of, layer_item_of, layer_of};
@@ -11,7 +11,7 @@ ghost use Rattle.mvt_change.specs.ChangeStands.{change_of};
 ghost use Rattle.mvt_change.specs.FileSizes.{IsFileSize};
 ghost use Rattle.mvt_meaning.specs.Command.{RenameKey};
 ghost use Rattle.mvt_meaning.specs.CommandStands.{layer_choice_of};
-ghost use Rattle.mvt_meaning.specs.Tagging.{is_key, renamed_keys};
+ghost use Rattle.mvt_meaning.specs.Tagging.{is_key};
 ghost use Rattle.mvt_renumber.specs.Fates.{fate_seen};
 ghost use Rattle.mvt_edit_steps.specs.Fates.{splices_of};
 ghost use Rattle.mvt_edit_steps.specs.Prepared.{Prepares};
@@ -20,7 +20,7 @@ ghost use Rattle.mvt_edit_attributes.specs.KeyFates.{FindsKeys, key_fate, may_re
 use mvt_change::{Change, fits_with_items};
 use mvt_document::tags::KEYS;
 use mvt_document::{
-    Body, BodyRef, Document, Field, FieldParts, Items, LayerItem, MAX_FILE, Measured, Tag,
+    Body, BodyRef, Document, Field, FieldParts, Items, LayerItem, MAX_FILE, Measured, Message, Tag,
     message_size, sum_within,
 };
 use mvt_edit_steps::{Fate, carry_out};
@@ -55,27 +55,30 @@ fn check(document: &Document, found: FoundLayer<'_>, old: &[u8], new: &[u8]) -> 
     requires { slice_get (document_of document.now) found.position ≡ Some (plain.OfLayer (layer_of found.layer.now)) }
     ensures { result ≡ may_rename old.now new.now found.entry.position (layer_of found.entry.layer.now).items (document_of document.now) }
 {
-    let keys = look_for(found.layer.items.as_slice(), old, new);
+    let items = &found.layer.items;
+    let keys = look_for(items, old, new);
     if !keys.there {
         return Err(Refusal::NoKey);
     }
     if keys.is_taken(old, new) {
         return Err(Refusal::KeyTaken);
     }
-    if !fits_with_items(document, found.position, keys.size) {
+    let size = and_size(size_of_others(items, old, keys.gone), keys.come);
+    if !fits_with_items(document, found.position, size) {
         return Err(Refusal::TooLarge);
     }
     Ok(())
 }
 
-/// What a walk over the items of a layer finds of an old key and of a new one: whether they are
-/// there, and how many bytes the items take with the new one in place of the old one, if that is
-/// within the limit of a file.
+/// What a walk over the keys of a layer finds of an old key and of a new one: whether they are
+/// there, how many bytes the keys that are the old one take, and how many these take with the bytes
+/// of the new one, each if it is within the limit of a file.
 #[derive(Clone, Copy)]
 struct Keys {
     there: bool,
     taken: bool,
-    size: Option<usize>,
+    gone: Option<usize>,
+    come: Option<usize>,
 }
 
 impl Keys {
@@ -90,14 +93,26 @@ impl Keys {
     }
 }
 
-fn look_for(items: &[LayerItem], old: &[u8], new: &[u8]) -> Keys
-    ensures { FindsKeys old.now new.now (map layer_item_of items.now) result }
+/// Only the items of the run of keys are gone through, and those of which no run is known.
+fn look_for(items: &Message<LayerItem>, old: &[u8], new: &[u8]) -> Keys
+    ensures { FindsKeys old.now new.now (map layer_item_of items.now.items) result }
 {
-    let mut keys = Keys {
+    let run = items.runs().keys;
+    let items = items.as_slice();
+    let none = Keys {
         there: false,
         taken: false,
-        size: Some(0),
+        gone: Some(0),
+        come: Some(0),
     };
+    let keys = and_items(none, &items[run.first..run.first + run.count], old, new);
+    and_items(keys, &items[run.until..], old, new)
+}
+
+/// The same with more items.
+fn and_items(mut keys: Keys, items: &[LayerItem], old: &[u8], new: &[u8]) -> Keys
+    ensures { (before : List plain.LayerItem) → FindsKeys old.now new.now before keys → FindsKeys old.now new.now (before ++ map layer_item_of items.now) result }
+{
     for item in items {
         keys = and_item(keys, item, old, new);
     }
@@ -108,10 +123,15 @@ fn look_for(items: &[LayerItem], old: &[u8], new: &[u8]) -> Keys
 fn and_item(keys: Keys, item: &LayerItem, old: &[u8], new: &[u8]) -> Keys
     ensures { (items : List plain.LayerItem) → FindsKeys old.now new.now items keys → FindsKeys old.now new.now (items ++ layer_item_of item.now ∷ []) result }
 {
-    Keys {
-        there: keys.there || key_field(item, old).is_some(),
-        taken: keys.taken || key_field(item, new).is_some(),
-        size: and_size(keys.size, size_renamed(item, old, new)),
+    let taken = keys.taken || key_field(item, new).is_some();
+    match key_field(item, old) {
+        Some((tag, width)) => Keys {
+            there: true,
+            taken,
+            gone: and_size(keys.gone, item.size()),
+            come: and_size(keys.come, message_size(tag, width, new.len(), MAX_FILE)),
+        },
+        None => Keys { taken, ..keys },
     }
 }
 
@@ -122,15 +142,30 @@ fn and_size(size: Option<usize>, more: Option<usize>) -> Option<usize>
     sum_within(size?, more?, MAX_FILE)
 }
 
-/// How many bytes the item takes, with the new key in place of the old one, if that is within the
-/// limit of a file.
-fn size_renamed(item: &LayerItem, old: &[u8], new: &[u8]) -> Option<usize>
-    ensures { IsFileSize result (length (flat_map layer_item_bytes (renamed_keys old.now new.now (layer_item_of item.now ∷ [])))) }
+/// How many bytes the items that are not the old key take, if that is within the limit of a file.
+/// `gone` is what the old keys take. If the list keeps how many bytes all its items take, no item
+/// is measured.
+fn size_of_others(items: &Message<LayerItem>, old: &[u8], gone: Option<usize>) -> Option<usize>
+    requires { IsFileSize gone (length (flat_map layer_item_bytes (filter (is_key old.now) (map layer_item_of items.now.items)))) }
+    ensures { IsFileSize result (length (flat_map layer_item_bytes (filter (λ item. not (is_key old.now item)) (map layer_item_of items.now.items)))) }
 {
-    match key_field(item, old) {
-        Some((tag, width)) => message_size(tag, width, new.len(), MAX_FILE),
-        None => item.size(),
+    match (items.known_size(), gone) {
+        (Some(sum), Some(gone)) => sum_within(sum - gone, 0, MAX_FILE),
+        _ => measure_others(items.as_slice(), old),
     }
+}
+
+/// The same, where each of the others is measured.
+fn measure_others(items: &[LayerItem], old: &[u8]) -> Option<usize>
+    ensures { IsFileSize result (length (flat_map layer_item_bytes (filter (λ item. not (is_key old.now item)) (map layer_item_of items.now)))) }
+{
+    let mut size = Some(0);
+    for item in items {
+        if key_field(item, old).is_none() {
+            size = and_size(size, item.size());
+        }
+    }
+    size
 }
 
 /// The tag and the stored width of the item, if it is a key of these bytes.
@@ -141,10 +176,11 @@ fn key_field(item: &LayerItem, key: &[u8]) -> Option<(Tag, u8)>
     let LayerItem::Plain(field) = item else {
         return None;
     };
+    if field.number() != KEYS {
+        return None;
+    }
     match field.body() {
-        BodyRef::Bytes { width, bytes } if field.number() == KEYS && bytes == key => {
-            Some((field.tag(), width))
-        }
+        BodyRef::Bytes { width, bytes } if bytes == key => Some((field.tag(), width)),
         _ => None,
     }
 }
