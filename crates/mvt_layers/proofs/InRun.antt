@@ -1,9 +1,9 @@
 -- Items of which those of one kind stand in a run: which of them has an ordinal, how many there are, and what is beside them.
 use Rattle.std.proofs.Common.{◌≡◌, ℕ, zero, suc, ◌+◌, ◌-◌, ◌<◌, ◌≤◌, Bool, true, false, Option, Some, None, List, [], ◌∷◌, ◌++◌, length, length-append, length-drop, map, take, drop, take-append-drop, get_or, option_map, refl, sym, ap, ◌∙◌, append_assoc, arith}
-use Rattle.std.specs.Prelude.{if◌then◌else◌, is_some, replicate, slice_get, MatchOption}
+use Rattle.std.specs.Prelude.{if◌then◌else◌, is_some, max, replicate, slice_get, MatchOption}
 use Rattle.std.specs.List.{cons_option, filter_map, enumerate_from, last_or}
 use Rattle.std.specs.Option.{option_and_then}
-use Rattle.std.proofs.lemmas.List.{append-nil, drop-drop, drop-map, drop_all, drop_at, length-map, length-replicate, length-take-le, map-append, take-map, take_all, take_at, nil_from_length}
+use Rattle.std.proofs.lemmas.List.{append-nil, drop-drop, drop-map, drop_all, drop_at, length-map, length-replicate, length-take-le, map-append, take-map, take_all, take_at, nil_from_length, replicate-append-replicate}
 use Rattle.std.proofs.lemmas.List.Elements.{filter_map-append}
 use Rattle.std.proofs.lemmas.List.FromFn.{length-enumerate_from}
 use Rattle.std.proofs.lemmas.Option.{slice_get_read}
@@ -20,11 +20,11 @@ use Rattle.mvt_document.specs.Plain as plain
 use Rattle.mvt_document.specs.Runs.{one_run, IsRunOf}
 use Rattle.mvt_document.specs.Bodies.{body_of}
 use Rattle.mvt_document.specs.Stands.{layer_item_of, tile_item_of}
-use Rattle.mvt_document.proofs.Running.{run_length}
+use Rattle.mvt_document.proofs.Running.{parts_known, run_length}
 use Rattle.mvt_document.proofs.Options.{none_is, some_is}
 use Rattle.mvt_document.proofs.Lists.{last_there}
 use Rattle.mvt_messages.specs.Found.{with_position, placed_from, found_from, found_in}
-use Rattle.mvt_layers.specs.Pools.{PassesOver, entry_in}
+use Rattle.mvt_layers.specs.Pools.{entry_in}
 use Rattle.mvt_messages.specs.Views.{content_in, content_of, contents, feature_in, layer_in, plain_fields}
 use Rattle.mvt_layers.proofs.Placing.{found_items, placed_items}
 use Rattle.mvt_layers.proofs.Yielded.{last_joined, map_last}
@@ -359,18 +359,36 @@ none_among (suc n) (in_layer.Feature feature ∷ items) e = none_among n items (
 fields_apart : (xs ys : List LayerItem) → plain_fields (map layer_item_of (xs ++ ys)) ≡ plain_fields (map layer_item_of xs) ++ plain_fields (map layer_item_of ys)
 fields_apart xs ys = ap plain_fields (map-append layer_item_of xs ys) ∙ filter_map-append _ (map layer_item_of xs) (map layer_item_of ys)
 
+-- those of the run from an item of it on, which are features; or none
+features_on : (run : Run) (items : List LayerItem) (start n : ℕ) → IsRunOf (in_layer_of_kind Message) run items → run.first ≤ start → start + n ≡ max start (run.first + run.count)
+    → map is_feature (take n (drop start items)) ≡ replicate n true
+features_on run items start zero h from to = refl
+features_on run items start (suc m) h from to =
+    let n = suc m in
+    let k = start - run.first in
+    let F = replicate run.first false in
+    let K = replicate k true in
+    let N = replicate n true in
+    let T = replicate h.following false ++ h.rest in
+    let count : run.count ≡ k + n = omega (arith, from, to) in
+    let long : length (F ++ K) ≡ start = omega (arith, from, length-append F K, length-replicate run.first false, length-replicate k true) in
+    let parted : map is_feature items ≡ (F ++ K) ++ (N ++ T) =
+    parts_known run (map is_feature items) h
+    ∙ ap (λ c. F ++ (replicate c true ++ T)) count
+    ∙ ap (λ xs. F ++ (xs ++ T)) (sym (replicate-append-replicate k n true))
+    ∙ ap (λ xs. F ++ xs) (append_assoc K N T)
+    ∙ sym (append_assoc F K (N ++ T)) in
+    sym (take-map is_feature n (drop start items))
+    ∙ ap (take n) (sym (drop-map is_feature start items) ∙ ap (drop start) parted ∙ drop_at (F ++ K) (N ++ T) start long)
+    ∙ take_at N T n (length-replicate n true)
+
 -- the items before the run, those of the run, which are features, and those after it
 pub run_parts : (run : Run) (items : List LayerItem) → IsRunOf (in_layer_of_kind Message) run items
     → (items ≡ take run.first items ++ (take run.count (drop run.first items) ++ drop (run.first + run.count) items)) × (map is_feature (take run.count (drop run.first items)) ≡ replicate run.count true)
 run_parts run items h =
-    let F = replicate run.first false in
-    let C = replicate run.count true in
-    let B = replicate h.following false in
     let rest = drop run.first items in (
       sym (take-append-drop run.first items) ∙ ap (λ xs. take run.first items ++ xs) (sym (take-append-drop run.count rest) ∙ ap (λ xs. take run.count rest ++ xs) (drop-drop run.count run.first items)),
-      sym (take-map is_feature run.count rest)
-          ∙ ap (take run.count) (sym (drop-map is_feature run.first items) ∙ ap (drop run.first) (h.is ∙ append_assoc F (C ++ B) h.rest) ∙ drop_at F ((C ++ B) ++ h.rest) run.first (length-replicate run.first false) ∙ append_assoc C B h.rest)
-          ∙ take_at C (B ++ h.rest) run.count (length-replicate run.count true),
+      features_on run items run.first run.count h (omega arith) (omega arith),
     )
 
 pub fields_beside : (run : Run) (items : List LayerItem) → IsRunOf (in_layer_of_kind Message) run items
@@ -401,35 +419,25 @@ parted_length run items h =
 
 -- ---- the keys and the values
 
-none_placed : (number n position : ℕ) (part back : List LayerItem) → map is_feature part ≡ replicate n true
-    → filter_map (with_position (entry_in number)) (enumerate_from position (map layer_item_of (part ++ back))) ≡ filter_map (with_position (entry_in number)) (enumerate_from (position + n) (map layer_item_of back))
-none_placed number zero position [] back e =
-    let same : position ≡ position + 0 = omega arith in
-    ap (λ p. filter_map (with_position (entry_in number)) (enumerate_from p (map layer_item_of back))) same
-none_placed number (suc n) position [] back e = absurd (cc)
-none_placed number zero position (item ∷ part) back e = absurd (cc)
-none_placed number (suc n) position (in_layer.Plain field ∷ part) back e = absurd (cc)
-none_placed number (suc n) position (in_layer.Feature feature ∷ part) back e =
-    let next : position + 1 + n ≡ position + suc n = omega arith in
-    none_placed number n (position + 1) part back (ap (drop 1) e)
-    ∙ ap (λ p. filter_map (with_position (entry_in number)) (enumerate_from p (map layer_item_of back))) next
+-- features are no entries
+no_entries : (number n : ℕ) (items : List LayerItem) → map is_feature items ≡ replicate n true → map (is_entry number) items ≡ replicate n false
+no_entries number zero [] e = refl
+no_entries number (suc n) [] e = absurd (cc)
+no_entries number zero (item ∷ items) e = absurd (cc)
+no_entries number (suc n) (in_layer.Plain field ∷ items) e = absurd (cc)
+no_entries number (suc n) (in_layer.Feature feature ∷ items) e = ap (λ more. false ∷ more) (no_entries number n items (ap (drop 1) e))
 
-pub passes_over : (number : ℕ) (run : Run) (items : List LayerItem) → IsRunOf (in_layer_of_kind Message) run items → PassesOver number run (map layer_item_of items)
-passes_over number run items h =
-    let parts = run_parts run items h in
-    let rest = drop run.first items in
-    let part = take run.count rest in
-    let back = drop (run.first + run.count) items in
-    record {
-      within = omega (arith, run_within (in_layer_of_kind Message) run items h, length-map items layer_item_of);
-      none = ap (λ xs. filter_map (with_position (entry_in number)) (enumerate_from run.first xs))
-          (drop-map layer_item_of run.first items ∙ ap (map layer_item_of) (sym (take-append-drop run.count rest) ∙ ap (λ xs. part ++ xs) (drop-drop run.count run.first items)))
-          ∙ none_placed number run.count run.first part back parts.1
-          ∙ ap (λ xs. filter_map (with_position (entry_in number)) (enumerate_from (run.first + run.count) xs)) (sym (drop-map layer_item_of (run.first + run.count) items));
-    }
-
-pub passes_none : (number : ℕ) (items : List LayerItem) → PassesOver number (record { first = 0; count = 0; until = 0 }) (map layer_item_of items)
-passes_none number items = record { within = omega arith; none = refl }
+-- so those from where the run of features begins on, or from later on, are those from its end on
+pub passed_from : (number : ℕ) (run : Run) (items : List LayerItem) (start : ℕ) → IsRunOf (in_layer_of_kind Message) run items
+    → placed_from (entry_in number) (max start run.first) (map layer_item_of items) ≡ placed_from (entry_in number) (max start (run.first + run.count)) (map layer_item_of items)
+passed_from number run items start h =
+    let first = max start run.first in
+    let end = max start (run.first + run.count) in
+    let n = end - first in
+    let sum : first + n ≡ end = omega arith in
+    let features = features_on run items first n h (omega arith) (omega (arith, sum)) in
+    none_passed layer_item_of (entry_in number) (is_entry number) (is_found_entry number) first n items (no_entries number n (take n (drop first items)) features)
+    ∙ ap (λ p. placed_from (entry_in number) p (map layer_item_of items)) sum
 
 -- nothing is found after all items
 pub placed_past : (number : ℕ) (items : List LayerItem) → placed_from (entry_in number) (length items) (map layer_item_of items) ≡ []

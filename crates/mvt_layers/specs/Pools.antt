@@ -1,11 +1,10 @@
 -- The entries of the pools of a layer: its keys and its values.
-use Rattle.std.specs.Prelude.{◌≡◌, ℕ, ◌+◌, ◌≤◌, List, Option, length}
+use Rattle.std.specs.Prelude.{ℕ, List, Option}
 use Rattle.std.specs.List.{find}
 use Rattle.std.specs.Option.{option_and_then}
 use Rattle.std.specs.Str.{bytes_eq}
 use Rattle.mvt_document.specs.Plain.{Layer, LayerItem}
-use Rattle.mvt_document.specs.declared.run.Run.{Run}
-use Rattle.mvt_messages.specs.Found.{found_in, placed_from}
+use Rattle.mvt_messages.specs.Found.{found_in}
 use Rattle.mvt_messages.specs.Views.{content_in, key_field, plain_in, value_field}
 
 -- the content of an item of a layer that is a LEN field of this number; none for another item (tiles 4.1)
@@ -27,8 +26,3 @@ found_values layer = found_entries value_field layer.items
 -- the first entry that is these bytes, or none
 abbrev pub first_equal : List ℕ → List (ℕ × (ℕ × List ℕ)) → Option (ℕ × (ℕ × List ℕ))
 first_equal bytes found = find (λ (entry : ℕ × (ℕ × List ℕ)). bytes_eq entry.1.1 bytes) found
-
--- no item of this run is an entry of the number, so those from its first on are those from its end on (tiles 4.1)
-pub record PassesOver (number : ℕ) (run : Run) (items : List LayerItem) : Type 0 where
-  pub within : run.first + run.count ≤ length items
-  pub none : placed_from (entry_in number) run.first items ≡ placed_from (entry_in number) (run.first + run.count) items

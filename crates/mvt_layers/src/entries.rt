@@ -10,11 +10,11 @@ ghost use Rattle.mvt_document.specs.Kinds.{in_layer_of_kind, is_entry};
 ghost use Rattle.mvt_document.specs.Runs.{IsRunOf};
 ghost use Rattle.mvt_document.specs.Stands.{layer_item_of};
 ghost use Rattle.mvt_messages.specs.Found.{found_from, placed_from};
-ghost use Rattle.mvt_layers.specs.Pools.{PassesOver, entry_in as is_entry_in, first_equal, found_entries};
+ghost use Rattle.mvt_layers.specs.Pools.{entry_in as is_entry_in, first_equal, found_entries};
 ghost use Rattle.mvt_layers.specs.Seen.{found_entry_seen};
 ghost use Rattle.mvt_messages.specs.Views.{contents, plain_fields};
 
-use crate::fields::{entry_in, first_entry};
+use crate::fields::{entry_in, features_from, first_entry};
 use crate::found::FoundEntry;
 use mvt_document::tags::NAME;
 use mvt_document::{Layer, LayerItem, Message, Run};
@@ -26,8 +26,8 @@ use std::marker::Model;
 pub struct Entries<'a> {
     items: &'a [LayerItem],
     number: u64,
-    // A run of features, none of which is an entry.
-    passed: Run,
+    // The run of features, none of which is an entry.
+    features: Run,
     // Where the search for the next one starts, and its ordinal.
     position: usize,
     ordinal: usize,
@@ -35,15 +35,18 @@ pub struct Entries<'a> {
 
 impl<'a> Model for Entries<'a> {
     ghost use Rattle.std.specs.Prelude.{ℕ, ◌≤◌, List, length, map};
+    ghost use Rattle.mvt_document.specs.declared.run.Kind.TheVariants.{Message};
+    ghost use Rattle.mvt_document.specs.Kinds.{in_layer_of_kind};
+    ghost use Rattle.mvt_document.specs.Runs.{IsRunOf};
     ghost use Rattle.mvt_document.specs.Stands.{layer_item_of};
     ghost use Rattle.mvt_messages.specs.Found.{found_from};
-    ghost use Rattle.mvt_layers.specs.Pools.{PassesOver, entry_in};
+    ghost use Rattle.mvt_layers.specs.Pools.{entry_in};
 
     ghost Value = { List (ℕ × (ℕ × List ℕ)) };
 
     ghost view = { λ l. found_from (entry_in l.number) l.ordinal l.position (map layer_item_of l.items.now) };
 
-    ghost invariant = { λ l. (l.ordinal ≤ l.position) × (l.position ≤ length l.items.now) × PassesOver l.number l.passed (map layer_item_of l.items.now) };
+    ghost invariant = { λ l. (l.ordinal ≤ l.position) × (l.position ≤ length l.items.now) × IsRunOf (in_layer_of_kind Message) l.features l.items.now };
 }
 
 impl<'a> Entries<'a> {
@@ -67,26 +70,28 @@ impl<'a> Entries<'a> {
         Entries {
             items,
             number,
-            passed: features,
+            features,
             position: 0,
             ordinal: 0,
         }
     }
 
     /// Those that are not in the run of the first of them.
-    pub(crate) fn following(items: &'a [LayerItem], entries: Run, number: u64) -> Entries<'a>
-        requires { IsRunOf (is_entry number) entries items.now }
+    pub(crate) fn following(
+        items: &'a [LayerItem],
+        entries: Run,
+        features: Run,
+        number: u64,
+    ) -> Entries<'a>
+        requires entries { IsRunOf (is_entry number) entries items.now }
+        requires features { IsRunOf (in_layer_of_kind kind.Message) features items.now }
         ensures items { result ≡ found_from (entry_in number) entries.count entries.until (map layer_item_of items.now) }
         ensures bound { entries.count + length result < 2 ^ 64 }
     {
         Entries {
             items,
             number,
-            passed: Run {
-                first: 0,
-                count: 0,
-                until: 0,
-            },
+            features,
             position: entries.until,
             ordinal: entries.count,
         }
@@ -103,7 +108,7 @@ impl<'a> Iterator for Entries<'a> {
     ghost remaining = { item_count (λ left. left) };
 
     fn next(&mut self) -> Option<FoundEntry<'a>> {
-        let (position, bytes) = first_entry(self.items, self.number, self.position, self.passed)?;
+        let (position, bytes) = first_entry(self.items, self.features, self.number, self.position)?;
         let ordinal = self.ordinal;
         self.position = position + 1;
         self.ordinal = ordinal + 1;
@@ -115,15 +120,22 @@ impl<'a> Iterator for Entries<'a> {
     }
 }
 
-/// The entry with this ordinal, where this is the run of the first of them.
-pub(crate) fn entry(items: &[LayerItem], entries: Run, number: u64, ordinal: usize) -> Option<&[u8]>
-    requires { IsRunOf (is_entry number) entries items.now }
+/// The entry with this ordinal, where these are the run of the first of them and that of the features.
+pub(crate) fn entry(
+    items: &[LayerItem],
+    entries: Run,
+    features: Run,
+    number: u64,
+    ordinal: usize,
+) -> Option<&[u8]>
+    requires entries { IsRunOf (is_entry number) entries items.now }
+    requires features { IsRunOf (in_layer_of_kind kind.Message) features items.now }
     ensures { option_copied result ≡ slice_get (contents number (plain_fields (map layer_item_of items.now))) ordinal }
 {
     if ordinal < entries.count {
         return entry_in(&items[entries.first + ordinal], number);
     }
-    let found = Entries::following(items, entries, number).nth(ordinal - entries.count)?;
+    let found = Entries::following(items, entries, features, number).nth(ordinal - entries.count)?;
     Some(found.bytes)
 }
 
@@ -147,12 +159,18 @@ fn entry_in_run(
     })
 }
 
-/// The last entry, where this is the run of the first of them.
-fn last_entry(items: &[LayerItem], entries: Run, number: u64) -> Option<FoundEntry<'_>>
-    requires { IsRunOf (is_entry number) entries items.now }
+/// The last entry, where these are the run of the first of them and that of the features.
+fn last_entry(
+    items: &[LayerItem],
+    entries: Run,
+    features: Run,
+    number: u64,
+) -> Option<FoundEntry<'_>>
+    requires entries { IsRunOf (is_entry number) entries items.now }
+    requires features { IsRunOf (in_layer_of_kind kind.Message) features items.now }
     ensures { option_map found_entry_seen result ≡ last_or None (found_entries number (map layer_item_of items.now)) }
 {
-    if let Some(found) = Entries::following(items, entries, number).last() {
+    if let Some(found) = Entries::following(items, entries, features, number).last() {
         return Some(found);
     }
     if entries.count == 0 {
@@ -165,24 +183,39 @@ fn last_entry(items: &[LayerItem], entries: Run, number: u64) -> Option<FoundEnt
 pub fn last_name(items: &Message<LayerItem>) -> Option<FoundEntry<'_>>
     ensures { option_map found_entry_seen result ≡ last_or None (found_entries 1 (map layer_item_of items.now.items)) }
 {
-    last_entry(items.as_slice(), items.runs().names, NAME)
+    let runs = items.runs();
+    last_entry(items.as_slice(), runs.names, runs.messages, NAME)
 }
 
-/// How many entries there are, where this is the run of the first of them.
-pub(crate) fn entry_count(items: &[LayerItem], entries: Run, number: u64) -> usize
-    requires { IsRunOf (is_entry number) entries items.now }
+/// How many entries there are, where these are the run of the first of them and that of the features.
+pub(crate) fn entry_count(items: &[LayerItem], entries: Run, features: Run, number: u64) -> usize
+    requires entries { IsRunOf (is_entry number) entries items.now }
+    requires features { IsRunOf (in_layer_of_kind kind.Message) features items.now }
     ensures { result ≡ length (contents number (plain_fields (map layer_item_of items.now))) }
 {
-    entries.count + entries_from(items, entries.until, number)
+    entries.count + entries_from(items, features, number, entries.until)
 }
 
-/// How many entries there are from `start` on.
-fn entries_from(items: &[LayerItem], start: usize, number: u64) -> usize
-    requires { start ≤ length items.now }
+/// How many entries there are from `start` on. The run of features is skipped.
+fn entries_from(items: &[LayerItem], features: Run, number: u64, start: usize) -> usize
+    requires there { start ≤ length items.now }
+    requires features { IsRunOf (in_layer_of_kind kind.Message) features items.now }
     ensures { result ≡ length (placed_from (is_entry_in number) start (map layer_item_of items.now)) }
 {
+    let (end, following) = features_from(items, features, start);
+    let before = entries_before(items, number, start, end);
+    before + entries_before(items, number, following, items.len())
+}
+
+/// How many entries there are from `start` to `end`.
+fn entries_before(items: &[LayerItem], number: u64, start: usize, end: usize) -> usize
+    requires order { start ≤ end }
+    requires there { end ≤ length items.now }
+    ensures count { result + length (placed_from (is_entry_in number) end (map layer_item_of items.now)) ≡ length (placed_from (is_entry_in number) start (map layer_item_of items.now)) }
+    ensures few { start + result ≤ end }
+{
     let mut count = 0;
-    for position in start..items.len() {
+    for position in start..end {
         count += usize::from(entry_in(&items[position], number).is_some());
     }
     count
@@ -209,8 +242,8 @@ pub(crate) fn first_equal<'a>(
     }
 }
 
-/// The same from `start` on, where the first from there on has the ordinal `first`. The items of
-/// the run of features are skipped.
+/// The same from `start` on, where the first from there on has the ordinal `first`. The run of
+/// features is skipped.
 fn equal_beside<'a>(
     items: &'a [LayerItem],
     features: Run,
@@ -221,19 +254,14 @@ fn equal_beside<'a>(
 ) -> Result<FoundEntry<'a>, usize>
     requires there { start ≤ length items.now }
     requires before { first ≤ start }
-    requires passed { PassesOver number features (map layer_item_of items.now) }
+    requires features { IsRunOf (in_layer_of_kind kind.Message) features items.now }
     ensures found { option_map found_entry_seen (result_ok result) ≡ first_equal bytes.now (found_from (is_entry_in number) first start (map layer_item_of items.now)) }
     ensures count { IfErr result (λ count. count ≡ first + length (placed_from (is_entry_in number) start (map layer_item_of items.now))) }
 {
-    if start >= features.first {
-        return equal_before(items, number, bytes, start, first, items.len());
-    }
-    match equal_before(items, number, bytes, start, first, features.first) {
+    let (end, following) = features_from(items, features, start);
+    match equal_before(items, number, bytes, start, first, end) {
         Ok(found) => Ok(found),
-        Err(next) => {
-            let following = features.first + features.count;
-            equal_before(items, number, bytes, following, next, items.len())
-        }
+        Err(next) => equal_before(items, number, bytes, following, next, items.len()),
     }
 }
 

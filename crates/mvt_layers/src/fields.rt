@@ -1,6 +1,6 @@
 //! What a field holds, and the items of a message that hold something.
 
-ghost use Rattle.std.specs.Prelude.{◌≡◌, ◌+◌, ◌^◌, ◌<◌, ◌≤◌, ◌∷◌, [], ◌++◌, length, map, option_map, slice_get, IfSome, MatchOption};
+ghost use Rattle.std.specs.Prelude.{◌≡◌, ℕ, ◌+◌, ◌^◌, ◌<◌, ◌≤◌, ◌∷◌, [], ◌++◌, length, map, max, option_map, slice_get, IfSome, MatchOption};
 ghost use Rattle.std.specs.List.{filter_map, last_or};
 ghost use Rattle.std.specs.Option.{option_copied};
 ghost use Rattle.mvt_document.specs.declared.run.Kind.TheVariants.{Message};
@@ -8,7 +8,7 @@ ghost use Rattle.mvt_document.specs.Kinds.{in_layer_of_kind, in_tile_of_kind};
 ghost use Rattle.mvt_document.specs.Runs.{IsRunOf};
 ghost use Rattle.mvt_document.specs.Stands.{feature_of, field_of, layer_item_of, layer_of, tile_item_of};
 ghost use Rattle.mvt_messages.specs.Found.{found_features, found_in, placed_from};
-ghost use Rattle.mvt_layers.specs.Pools.{PassesOver, entry_in};
+ghost use Rattle.mvt_layers.specs.Pools.{entry_in};
 ghost use Rattle.mvt_layers.specs.Seen.{found_feature_seen, found_layer_seen};
 ghost use Rattle.mvt_layers.specs.WithId.{IsFirstWithId, IsPlacedIn};
 ghost use Rattle.mvt_messages.specs.Views.{content_in, contents, feature_in, has_id, last_value, layer_in, plain_fields, value_in};
@@ -203,25 +203,40 @@ pub(crate) fn entry_in(item: &LayerItem, number: u64) -> Option<&[u8]>
     }
 }
 
-/// The content of the first LEN field of this number from `start` on, and its position. The items
-/// of the run are skipped.
+/// Where the run of features begins and where it ends, or `start` where that is further on. No item
+/// in between is an entry.
+#[tactic(auto, using(crate::proofs::InRun::run_within))]
+pub(crate) fn features_from(items: &[LayerItem], features: Run, start: usize) -> (usize, usize)
+    requires there { start ≤ length items.now }
+    requires run { IsRunOf (in_layer_of_kind Message) features items.now }
+    ensures first { result.0 ≡ max start features.first }
+    ensures end { result.1 ≡ max start (features.first + features.count) }
+    ensures within { result.1 ≤ length items.now }
+    ensures passed { (number : ℕ) → placed_from (entry_in number) result.0 (map layer_item_of items.now) ≡ placed_from (entry_in number) result.1 (map layer_item_of items.now) }
+{
+    (
+        start.max(features.first),
+        start.max(features.first + features.count),
+    )
+}
+
+/// The content of the first LEN field of this number from `start` on, and its position. The run of
+/// features is skipped.
 pub(crate) fn first_entry(
     items: &[LayerItem],
+    features: Run,
     number: u64,
     start: usize,
-    passed: Run,
 ) -> Option<(usize, &[u8])>
     requires there { start ≤ length items.now }
-    requires passed { PassesOver number passed (map layer_item_of items.now) }
+    requires features { IsRunOf (in_layer_of_kind Message) features items.now }
     ensures found { MatchOption result (placed_from (entry_in number) start (map layer_item_of items.now) ≡ []) (λ found. placed_from (entry_in number) start (map layer_item_of items.now) ≡ (found.0, found.1.now) ∷ placed_from (entry_in number) (found.0 + 1) (map layer_item_of items.now)) }
     ensures within { IfSome result (λ found. (start ≤ found.0) × (found.0 < length items.now)) }
 {
-    if start >= passed.first {
-        return entry_before(items, number, start, items.len());
-    }
-    match entry_before(items, number, start, passed.first) {
+    let (end, following) = features_from(items, features, start);
+    match entry_before(items, number, start, end) {
         Some(found) => Some(found),
-        None => entry_before(items, number, passed.first + passed.count, items.len()),
+        None => entry_before(items, number, following, items.len()),
     }
 }
 

@@ -155,15 +155,17 @@ impl<'a> LayerView<'a> {
     pub fn key_count(self) -> usize
         ensures { result ≡ length (keys (layer_seen self.entry)) }
     {
-        let keys = self.layer.items.runs().keys;
-        entry_count(self.layer.items.as_slice(), keys, KEYS)
+        let items = self.layer.items.as_slice();
+        let runs = self.layer.items.runs();
+        entry_count(items, runs.keys, runs.messages, KEYS)
     }
 
     pub fn value_count(self) -> usize
         ensures { result ≡ length (values (layer_seen self.entry)) }
     {
-        let values = self.layer.items.runs().values;
-        entry_count(self.layer.items.as_slice(), values, VALUES)
+        let items = self.layer.items.as_slice();
+        let runs = self.layer.items.runs();
+        entry_count(items, runs.values, runs.messages, VALUES)
     }
 
     /// How many keys and how many values there are.
@@ -193,16 +195,18 @@ impl<'a> LayerView<'a> {
     pub fn key(self, ordinal: usize) -> Option<&'a [u8]>
         ensures { option_copied result ≡ slice_get (keys (layer_seen self.entry)) ordinal }
     {
-        let keys = self.layer.items.runs().keys;
-        entry(self.layer.items.as_slice(), keys, KEYS, ordinal)
+        let items = self.layer.items.as_slice();
+        let runs = self.layer.items.runs();
+        entry(items, runs.keys, runs.messages, KEYS, ordinal)
     }
 
     /// The value with this ordinal.
     pub fn value(self, ordinal: usize) -> Option<&'a [u8]>
         ensures { option_copied result ≡ slice_get (values (layer_seen self.entry)) ordinal }
     {
-        let values = self.layer.items.runs().values;
-        entry(self.layer.items.as_slice(), values, VALUES, ordinal)
+        let items = self.layer.items.as_slice();
+        let runs = self.layer.items.runs();
+        entry(items, runs.values, runs.messages, VALUES, ordinal)
     }
 }
 

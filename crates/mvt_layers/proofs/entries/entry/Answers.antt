@@ -18,11 +18,11 @@ returns-then-ordinal-entries c =
     let k = c.args.ordinal in
     let position = c.args.entries.first + k in
     let x = c.index-items-entries.result in
-    let at = slice_get_read items (length items) position x refl (omega (arith, run_within (is_entry number) c.args.entries items c.requires, c.if-ordinal-entries.true)) c.index-items-entries.is in
+    let at = slice_get_read items (length items) position x refl (omega (arith, run_within (is_entry number) c.args.entries items c.requires.entries, c.if-ordinal-entries.true)) c.index-items-entries.is in
     c.entry_in.ensures
     ∙ sym (ap (λ xs. slice_get xs k) (sym (found_contents number plain))
     ∙ slice_get-map (λ f. f.1.1) (found_in (entry_in number) plain) k
-    ∙ ap (option_map (λ f. f.1.1)) (run_there layer_item_of (entry_in number) (is_entry number) (is_found_entry number) c.args.entries items k c.requires c.if-ordinal-entries.true ∙ ap (there layer_item_of (entry_in number) (is_entry number) (is_found_entry number) k position) at)
+    ∙ ap (option_map (λ f. f.1.1)) (run_there layer_item_of (entry_in number) (is_entry number) (is_found_entry number) c.args.entries items k c.requires.entries c.if-ordinal-entries.true ∙ ap (there layer_item_of (entry_in number) (is_entry number) (is_found_entry number) k position) at)
     ∙ content_there number k position x)
 
 pub returns-in_err-found : goal.returns-in_err-found
@@ -30,7 +30,7 @@ returns-in_err-found c =
     let number = c.args.number in
     let items = map layer_item_of c.args.items.now in
     let found = nth_from_yields_List _ _ _ c.nth.ensures.ran (YieldsList-from_first found_entry_seen (λ left. left) _ c.following.ensures.items) in
-    let past = found ∙ sym (run_past layer_item_of (entry_in number) (is_entry number) (is_found_entry number) c.args.entries c.args.items.now c.args.ordinal c.requires c.if-ordinal-entries.false) in
+    let past = found ∙ sym (run_past layer_item_of (entry_in number) (is_entry number) (is_found_entry number) c.args.entries c.args.items.now c.args.ordinal c.requires.entries c.if-ordinal-entries.false) in
     let whole = ap (option_map (λ f. f.1.1)) past ∙ sym (slice_get-map (λ f. f.1.1) (found_in (entry_in number) items) c.args.ordinal) ∙ ap (λ xs. slice_get xs c.args.ordinal) (found_contents number items) in
     rw c.from_residual.ensures (rw c.in_err-found.was at whole)
 
@@ -39,6 +39,6 @@ returns c =
     let number = c.args.number in
     let items = map layer_item_of c.args.items.now in
     let found = nth_from_yields_List _ _ _ c.nth.ensures.ran (YieldsList-from_first found_entry_seen (λ left. left) _ c.following.ensures.items) in
-    let past = found ∙ sym (run_past layer_item_of (entry_in number) (is_entry number) (is_found_entry number) c.args.entries c.args.items.now c.args.ordinal c.requires c.if-ordinal-entries.false) in
+    let past = found ∙ sym (run_past layer_item_of (entry_in number) (is_entry number) (is_found_entry number) c.args.entries c.args.items.now c.args.ordinal c.requires.entries c.if-ordinal-entries.false) in
     let whole = ap (option_map (λ f. f.1.1)) past ∙ sym (slice_get-map (λ f. f.1.1) (found_in (entry_in number) items) c.args.ordinal) ∙ ap (λ xs. slice_get xs c.args.ordinal) (found_contents number items) in
     rw c.in_ok-found.was at whole

@@ -6,11 +6,8 @@ use Rattle.mvt_document.specs.Stands.{layer_item_of}
 use Rattle.mvt_messages.specs.Found.{placed_from}
 use Rattle.mvt_messages.specs.Views.{contents, plain_fields}
 use Rattle.mvt_layers.specs.Pools.{entry_in, first_equal}
-use Rattle.mvt_layers.proofs.InRun.{is_found_entry, none_before, none_after, passes_over, placed_contents}
+use Rattle.mvt_layers.proofs.InRun.{is_found_entry, none_before, none_after, placed_contents}
 use Rattle.mvt_layers.proofs.entries.first_equal.Goals as goal
-
-pub equal_beside-requires-clause-passed : goal.equal_beside-requires-clause-passed
-equal_beside-requires-clause-passed c = passes_over c.args.number c.args.features c.args.items.now c.requires.features
 
 pub returns-in-Ok-clause-found : goal.returns-in-Ok-clause-found
 returns-in-Ok-clause-found c =

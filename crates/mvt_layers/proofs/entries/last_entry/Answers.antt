@@ -12,13 +12,13 @@ pub returns-in-Some : goal.returns-in-Some
 returns-in-Some c =
     let number = c.args.number in
     let last = last_from_yields_List _ c.in-Some.ensures.ran (YieldsList-from_first found_entry_seen (λ left. left) _ c.following.ensures.items) in
-    sym (run_last_after layer_item_of (entry_in number) (is_entry number) (is_found_entry number) c.args.entries c.args.items.now (found_entry_seen c.in-Some.found) c.requires (sym last))
+    sym (run_last_after layer_item_of (entry_in number) (is_entry number) (is_found_entry number) c.args.entries c.args.items.now (found_entry_seen c.in-Some.found) c.requires.entries (sym last))
 
 pub returns-then-entries-eq0 : goal.returns-then-entries-eq0
 returns-then-entries-eq0 c =
     let number = c.args.number in
     let last = last_from_yields_List _ c.in_default.ensures.ran (YieldsList-from_first found_entry_seen (λ left. left) _ c.following.ensures.items) in
-    sym (run_no_last layer_item_of (entry_in number) (is_entry number) (is_found_entry number) c.args.entries c.args.items.now c.requires (sym last) c.if-entries-eq0.true)
+    sym (run_no_last layer_item_of (entry_in number) (is_entry number) (is_found_entry number) c.args.entries c.args.items.now c.requires.entries (sym last) c.if-entries-eq0.true)
 
 pub returns : goal.returns
 returns c =
@@ -26,4 +26,4 @@ returns c =
     let last = last_from_yields_List _ c.in_default.ensures.ran (YieldsList-from_first found_entry_seen (λ left. left) _ c.following.ensures.items) in
     let k = c.args.entries.count - 1 in
     c.entry_in_run.ensures
-    ∙ sym (run_last_in layer_item_of (entry_in number) (is_entry number) (is_found_entry number) c.args.entries c.args.items.now k c.requires (sym last) (omega (arith, c.if-entries-eq0.false)))
+    ∙ sym (run_last_in layer_item_of (entry_in number) (is_entry number) (is_found_entry number) c.args.entries c.args.items.now k c.requires.entries (sym last) (omega (arith, c.if-entries-eq0.false)))
