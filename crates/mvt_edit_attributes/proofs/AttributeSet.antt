@@ -5,6 +5,7 @@ use Rattle.std.proofs.lemmas.List.{drop_all, length-map, take_all}
 use Rattle.std.proofs.lemmas.List.Concat.{flat_map-append}
 use Rattle.std.specs.List.{AllByRecursion, cons_option, flat_map, list_any}
 use Rattle.std.specs.Option.{IfSome}
+use Rattle.std.specs.Prelude.{IsErrAnd}
 use Rattle.std.specs.Str.{bytes_eq}
 use Rattle.mvt_document.specs.declared.TheConstants.{MAX_FILE}
 use Rattle.mvt_document.specs.Lists.{change_at}
@@ -12,12 +13,14 @@ use Rattle.mvt_document.specs.Opens.{IsField, IsLayerItem}
 use Rattle.mvt_document.specs.Places.{change_fields, change_items, in_feature, items_at}
 use Rattle.mvt_document.specs.Plain.{Feature, Field, Layer, LayerItem, OfFeature, OfLayer, PlainInLayer, Document}
 use Rattle.mvt_document.specs.Splicing.{part}
+use Rattle.mvt_document.specs.Stands.{layer_of}
 use Rattle.mvt_document.specs.Wire.{bytes_of, field_bytes, layer_item_bytes, minimal_width}
 use Rattle.mvt_document.proofs.Spelling.{minimal_spelling}
 use Rattle.mvt_document.proofs.EachItem.{all_joined}
 use Rattle.mvt_value.specs.Messages.{encoded_value}
 use Rattle.mvt_value.specs.Values.{Value}
 use Rattle.mvt_change.specs.Changes.{Change, OfTheLayer}
+use Rattle.mvt_change.specs.declared.change.Change as held
 use Rattle.mvt_change.proofs.Lenses.{list_part}
 use Rattle.mvt_meaning.specs.Command.{FeatureChoice, LayerChoice, SetAttribute}
 use Rattle.mvt_messages.specs.Views.{contents, key_field, plain_fields, value_field}
@@ -27,15 +30,19 @@ use Rattle.mvt_meaning.specs.Selection.{feature_positions, is_feature, layer_pos
 use Rattle.mvt_meaning.specs.Tagging.{attributed, missing_entries, missing_entry, pairs_among, pairs_with, with_attribute}
 use Rattle.mvt_meaning.specs.Weights.{of_selected, set_puts, set_takes, set_weight, weigh}
 use Rattle.mvt_meaning.specs.declared.refusal.Refusal.{Refusal}
-use Rattle.mvt_meaning.specs.declared.refusal.Refusal.TheVariants.{BadTags, RepeatedKey, TooLarge}
+use Rattle.mvt_meaning.specs.declared.refusal.Refusal.TheVariants.{BadTags, NoMemory, RepeatedKey, TooLarge}
+use Rattle.mvt_layers.specs.declared.found.FoundFeature.{FoundFeature}
+use Rattle.mvt_layers.specs.declared.found.FoundLayer.{FoundLayer}
+use Rattle.mvt_select.specs.Found.{IsFoundFeature, IsFoundLayer}
 use Rattle.mvt_meaning.proofs.Found.{change_layer_found, change_nth_found, fields_at_found, fields_of_found, items_at_found, items_of_found, selected_in_found}
 use Rattle.mvt_meaning.proofs.NewFields.{missing_valid, new_key, new_value}
 use Rattle.mvt_edit_steps.specs.Fates.{Splice}
-use Rattle.mvt_edit_steps.specs.Prepared.{IsPrepared}
+use Rattle.mvt_edit_steps.specs.Prepared.{IsPrepared, Prepares}
 use Rattle.mvt_edit_steps.proofs.CarriedOut.{AreThere, put_all, spliced_all, taken_all}
 use Rattle.mvt_edit_steps.proofs.Carrying.{carried, in_feature_at, in_layer_at, in_the_feature, in_the_layer, makes_alike}
 use Rattle.mvt_edit_steps.proofs.Heavy.{tag_and_content}
 use Rattle.mvt_edit_steps.proofs.Leading.{Leads, both_lead}
+use Rattle.mvt_edit_steps.proofs.Refusing.{both_found, ran_out}
 use Rattle.mvt_edit_attributes.specs.Attribute.{AreFound, GivesAttribute, attribute_checked, appended, bytes_put, entries_for, entry_unless}
 use Rattle.mvt_edit_attributes.specs.declared.pools.Ordinals.{Ordinals}
 
@@ -142,6 +149,10 @@ both_checked : {A : Type 0} (first second : Result (Unit {0}) Refusal) (last : R
 both_checked (Ok ok) (Ok fine) last is = refl
 both_checked (Ok ok) (Err e) last is = absurd cc
 both_checked (Err e) second last is = absurd cc
+
+-- where memory runs out after the layer and the feature were found
+pub set_ran_out : (choice : LayerChoice) (feature : FeatureChoice) (document : Document) (holder : FoundLayer) (found : FoundFeature) → IsFoundLayer choice document holder → IsFoundFeature feature (layer_of holder.layer.now) found → (key : List ℕ) (value : Value) (result : Result held.Change Refusal) → IsErrAnd result (λ refusal. refusal ≡ NoMemory) → Prepares (SetAttribute choice feature key value) document result
+set_ran_out choice feature document holder found is here key value result out = ran_out (SetAttribute choice feature key value) document result out (both_found choice feature document holder found is here)
 
 module _ (choice : LayerChoice) (key : List ℕ) (value : Value) (document : Document) (ordinal position : ℕ) (layer : Layer) (chosen : selected choice document ≡ Ok ordinal) (placed : slice_get (layer_positions document) ordinal ≡ Some position) (there : slice_get document position ≡ Some (OfLayer layer)) where
   items_here : items_of ordinal document ≡ layer.items

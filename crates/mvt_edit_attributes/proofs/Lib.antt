@@ -1,4 +1,3 @@
-mod BothFound
 mod EntryOrdinals
 mod KeysNamed
 mod OneDiffers

@@ -1,6 +1,6 @@
 -- Commands that ask for memory.
 use Rattle.std.proofs.Common.{◌≡◌, ℕ, Some, Result, Ok, Err, slice_get, refl, ◌∙◌}
-use Rattle.std.specs.Prelude.{nat_lt, not, IsOk}
+use Rattle.std.specs.Prelude.{nat_lt, IsOk}
 use Rattle.mvt_document.specs.Plain.{Layer, OfLayer, Document}
 use Rattle.mvt_meaning.specs.Command.{LayerChoice, FeatureChoice, Command, RenameLayer, MoveLayer, DropLayer, KeepLayers, InsertFeature, MoveFeature, DropFeature, SetId, ClearId, SetAttribute, UnsetAttribute, RenameKey, Exclude, ExcludeAll, Shift, SetGeometry, CompactKeys, CompactValues, Compact}
 use Rattle.mvt_meaning.specs.Meaning.{◌>>=◌, applied, feature_count, is_taken, refuse_if}

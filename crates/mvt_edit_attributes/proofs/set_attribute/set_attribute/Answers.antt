@@ -14,9 +14,9 @@ use Rattle.mvt_meaning.specs.CommandStands.{feature_choice_of, layer_choice_of}
 use Rattle.mvt_meaning.specs.Tagging.{with_attribute}
 use Rattle.mvt_edit_steps.specs.Fates.{seen, splice_of}
 use Rattle.mvt_edit_steps.proofs.Carrying.{in_feature_at}
+use Rattle.mvt_edit_steps.proofs.Refusing.{both_found}
 use Rattle.mvt_edit_attributes.specs.Attribute.{AreFound, appended, entries_for}
-use Rattle.mvt_edit_attributes.proofs.AttributeSet.{attribute_set, attributed_at, entries_lacked, no_feature_gets, set_too_large, tags_refused}
-use Rattle.mvt_edit_attributes.proofs.BothFound.{both_found, set_ran_out}
+use Rattle.mvt_edit_attributes.proofs.AttributeSet.{attribute_set, attributed_at, entries_lacked, no_feature_gets, set_ran_out, set_too_large, tags_refused}
 use Rattle.mvt_edit_attributes.proofs.set_attribute.set_attribute.Goals as goal
 
 pub returns-in_err-found : goal.returns-in_err-found

@@ -9,8 +9,7 @@ use Rattle.mvt_layers.specs.Seen.{found_feature_seen}
 use Rattle.mvt_edit_steps.specs.Decided.{field_fates}
 use Rattle.mvt_edit_steps.proofs.FieldsLeft.{fields_left}
 use Rattle.mvt_edit_steps.specs.EachFeature.{feature_steps}
-use Rattle.mvt_edit_steps.proofs.Refusing.{ran_out}
-use Rattle.mvt_edit_attributes.proofs.BothFound.{both_found}
+use Rattle.mvt_edit_steps.proofs.Refusing.{both_found, ran_out}
 use Rattle.mvt_edit_attributes.proofs.PairsLost.{key_lacks, no_feature_loses, pairs_lack, tags_lose}
 use Rattle.mvt_edit_attributes.proofs.unset.unset.Goals as goal
 

@@ -12,11 +12,10 @@ use Rattle.mvt_change.specs.Changes.{FeatureStep}
 use Rattle.mvt_meaning.specs.Command.{SetGeometry}
 use Rattle.mvt_meaning.specs.CommandStands.{feature_choice_of, layer_choice_of}
 use Rattle.mvt_meaning.specs.Geometries.{is_geometry_field, is_kind, with_geometry, with_kind}
-use Rattle.mvt_meaning.proofs.Asking.{finds_feature}
 use Rattle.mvt_edit_steps.specs.Once.{once_splices}
 use Rattle.mvt_edit_steps.specs.PutsLast.{ReplacesLast}
 use Rattle.mvt_edit_steps.proofs.Carrying.{in_feature_at}
-use Rattle.mvt_edit_steps.proofs.Refusing.{ran_out}
+use Rattle.mvt_edit_steps.proofs.Refusing.{both_found, ran_out}
 use Rattle.mvt_edit_geometry.proofs.Drawn.{drawn_size}
 use Rattle.mvt_edit_geometry.proofs.GeometrySet.{drawing_refused, drawn_too_large, geometry_set, no_feature_drawn}
 use Rattle.mvt_edit_geometry.proofs.Redrawn.{drawings_heavy}
@@ -44,10 +43,9 @@ returns-in_err-steps_of c =
     let choice = layer_choice_of c.args.choice.now in
     let feature = feature_choice_of c.args.feature.now in
     let document = document_of c.args.document.now in
-    let holder = c.in_ok-holder.holder in
-    let is = c.in_ok-holder.ensures.found in
-    let asks = finds_feature choice document holder.ordinal holder.position (layer_of holder.layer.now) is.selects is.placed is.there feature c.in_ok-found.found.ordinal c.in_ok-found.ensures.found.selects in
-    ran_out (SetGeometry choice feature c.args.geometry.now) document c.from_residual-in_err-steps_of.result c.from_residual-in_err-steps_of.ensures.1 asks
+    let out = c.from_residual-in_err-steps_of in
+    ran_out (SetGeometry choice feature c.args.geometry.now) document out.result out.ensures.1
+    (both_found choice feature document c.in_ok-holder.holder c.in_ok-found.found c.in_ok-holder.ensures.found c.in_ok-found.ensures.found)
 
 pub size_drawn-size-requires : goal.size_drawn-size-requires
 size_drawn-size-requires c = let within = c.in_ok-drawing.ensures.kind.can.within in omega (arith, within, length-map c.fields-fields.result.now field_of)

@@ -13,13 +13,12 @@ use Rattle.mvt_change.specs.FileSizes.{IsFileSize}
 use Rattle.mvt_meaning.specs.Command.{Shift}
 use Rattle.mvt_meaning.specs.CommandStands.{feature_choice_of, layer_choice_of}
 use Rattle.mvt_meaning.specs.Geometries.{moves, shifted}
-use Rattle.mvt_meaning.proofs.Asking.{finds_feature}
 use Rattle.mvt_meaning.proofs.Moving.{moves_short}
 use Rattle.mvt_edit_steps.specs.Decided.{field_fates}
 use Rattle.mvt_edit_steps.specs.Fates.{splices_of}
 use Rattle.mvt_edit_steps.proofs.Carrying.{in_feature_at}
 use Rattle.mvt_edit_steps.proofs.FieldsLeft.{fields_left}
-use Rattle.mvt_edit_steps.proofs.Refusing.{ran_out}
+use Rattle.mvt_edit_steps.proofs.Refusing.{both_found, ran_out}
 use Rattle.mvt_edit_geometry.proofs.Shifted.{no_feature_moves, not_drawn, shift_made, shift_too_large, too_far}
 use Rattle.mvt_edit_geometry.proofs.shift.shift.Goals as goal
 
@@ -38,12 +37,11 @@ returns-in_err-decisions c =
     let found = c.in_ok-found.found in
     let here = c.in_ok-found.ensures.found in
     let feature = feature_of found.feature.now in
-    let asks = finds_feature (layer_choice_of c.args.choice.now) (document_of c.args.document.now) holder.ordinal holder.position (layer_of holder.layer.now) is.selects is.placed is.there (feature_choice_of c.args.feature.now) found.ordinal here.selects in
     let refused = rw (to_z-of_z w64 c.args.dx c.ranges.dx, to_z-of_z w64 c.args.dy c.ranges.dy) at c.in_err-decisions.ensures.refused in
     let passed = err_from_is_err_and c.from_residual-in_err-decisions.result c.from_residual-in_err-decisions.ensures.1 in
     rw (passed.1, passed.2) (
     elim refused [
-      | inl memory ↦ inl (memory, asks)
+      | inl memory ↦ inl (memory, both_found (layer_choice_of c.args.choice.now) (feature_choice_of c.args.feature.now) (document_of c.args.document.now) holder found is here)
       | inr other ↦ (
           elim other [
             | inl bad ↦ inr (not_drawn (layer_choice_of c.args.choice.now) c.args.dx c.args.dy (document_of c.args.document.now) holder.ordinal holder.position (layer_of holder.layer.now) is.selects is.placed is.there (feature_choice_of c.args.feature.now) found.ordinal found.position feature here.selects here.placed here.there bad.1 ∙ ap Err (sym bad.0))
@@ -57,10 +55,9 @@ returns-in_err-steps c =
     let choice = layer_choice_of c.args.choice.now in
     let feature = feature_choice_of c.args.feature.now in
     let document = document_of c.args.document.now in
-    let holder = c.in_ok-holder.holder in
-    let is = c.in_ok-holder.ensures.found in
-    let asks = finds_feature choice document holder.ordinal holder.position (layer_of holder.layer.now) is.selects is.placed is.there feature c.in_ok-found.found.ordinal c.in_ok-found.ensures.found.selects in
-    ran_out (Shift choice feature c.args.dx c.args.dy) document c.from_residual-in_err-steps.result c.from_residual-in_err-steps.ensures.1 asks
+    let out = c.from_residual-in_err-steps in
+    ran_out (Shift choice feature c.args.dx c.args.dy) document out.result out.ensures.1
+    (both_found choice feature document c.in_ok-holder.holder c.in_ok-found.found c.in_ok-holder.ensures.found c.in_ok-found.ensures.found)
 
 pub returns-then-not-fits_with_fields : goal.returns-then-not-fits_with_fields
 returns-then-not-fits_with_fields c =

@@ -4,10 +4,9 @@ use Rattle.mvt_document.specs.Stands.{document_of, feature_of, layer_of}
 use Rattle.mvt_change.specs.ChangeStands.{step_of}
 use Rattle.mvt_meaning.specs.Command.{SetId}
 use Rattle.mvt_meaning.specs.CommandStands.{feature_choice_of, layer_choice_of}
-use Rattle.mvt_meaning.proofs.Asking.{finds_feature}
 use Rattle.mvt_edit_lists.proofs.NamesAndIds.{feature_refused, id_prepared, id_too_large}
 use Rattle.mvt_edit_steps.proofs.OneStep.{prepared_within_limit}
-use Rattle.mvt_edit_steps.proofs.Refusing.{ran_out}
+use Rattle.mvt_edit_steps.proofs.Refusing.{both_found, ran_out}
 use Rattle.mvt_edit_lists.proofs.set_id.set_id.Goals as goal
 
 pub returns : goal.returns
@@ -22,7 +21,7 @@ returns c =
     let is = c.in_ok-found.ensures.found in
     let limited = c.one_step_within_limit.ensures in
     prepared_within_limit (SetId choice feature_choice c.args.id) document step c.one_step_within_limit.result
-    (finds_feature choice document holder.ordinal holder.position (layer_of holder.layer.now) holds.selects holds.placed holds.there feature_choice found.ordinal is.selects)
+    (both_found choice feature_choice document holder found holds is)
     limited.made limited.within limited.refused
     (id_prepared choice feature_choice c.args.id document holder.ordinal holder.position (layer_of holder.layer.now) holds.selects holds.placed holds.there found.ordinal found.position (feature_of found.feature.now) is.selects is.placed is.there step c.in_ok-step.ensures)
     (id_too_large choice feature_choice c.args.id document holder.ordinal holder.position (layer_of holder.layer.now) holds.selects holds.placed holds.there found.ordinal found.position (feature_of found.feature.now) is.selects is.placed is.there step c.in_ok-step.ensures)
@@ -40,7 +39,6 @@ returns-in_err-step c =
     let choice = layer_choice_of c.args.choice.now in
     let feature_choice = feature_choice_of c.args.feature.now in
     let document = document_of c.args.document.now in
-    let holder = c.in_ok-holder.holder in
-    let holds = c.in_ok-holder.ensures.found in
-    ran_out (SetId choice feature_choice c.args.id) document c.from_residual-in_err-step.result c.from_residual-in_err-step.ensures.1
-    (finds_feature choice document holder.ordinal holder.position (layer_of holder.layer.now) holds.selects holds.placed holds.there feature_choice c.in_ok-found.found.ordinal c.in_ok-found.ensures.found.selects)
+    let out = c.from_residual-in_err-step in
+    ran_out (SetId choice feature_choice c.args.id) document out.result out.ensures.1
+    (both_found choice feature_choice document c.in_ok-holder.holder c.in_ok-found.found c.in_ok-holder.ensures.found c.in_ok-found.ensures.found)
