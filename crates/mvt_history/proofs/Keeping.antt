@@ -16,6 +16,7 @@ use Rattle.mvt_history_steps.specs.Reached.{LeadsBack, LeadBack, LeadOn, LeadOut
 use Rattle.mvt_history_steps.specs.Standing.{Standing, IsReady, changes_in, closed_document}
 use Rattle.mvt_history_steps.specs.Held.{IsReached, IsHeld}
 use Rattle.mvt_history_steps.specs.Session.{StandsFor}
+use Rattle.mvt_history.specs.Kept.{IsKept, gone_from, with_open}
 use Rattle.mvt_history_steps.proofs.MarkOrder.{all_passed, order_filtered, length_filtered}
 use Rattle.mvt_history_steps.proofs.Counting.{counted_twice, counted_between, all_from_counted, in_order_from_counted}
 use Rattle.mvt_history_steps.proofs.Sound.{length-with_step, sound_with_step, sound_with_group}
@@ -50,18 +51,6 @@ within_tested low high mark e =
       | inl above ↦ (let below : nat_le mark.point high ≡ true = rw above at e in (grind (arith, nat_tests, above), grind (arith, nat_tests, below)))
       | inr not_above ↦ absurd (let no = rw not_above at e in cc)
     ]
-
--- how many changes go if one more is kept
-abbrev pub gone_from : Standing → ℕ
-gone_from session = length session.undo + 1 - session.depth
-
--- the change is the next for undo, there is none for redo, and no step is open
-pub record IsKept (before after : Standing) (change : Change) : Type 0 where
-  pub undo : after.undo ≡ take before.depth (change ∷ before.undo)
-  pub redo : after.redo ≡ []
-  pub depth : after.depth ≡ before.depth
-  pub marks : map (counted_from (gone_from before)) after.marks ≡ between (gone_from before) (length before.undo) before.marks
-  pub pending : after.pending ≡ None
 
 length_kept : (before after : Standing) (change : Change) → IsKept before after change → (length after.undo ≡ min before.depth (length before.undo + 1)) × (length after.redo ≡ 0)
 length_kept before after change kept =
@@ -172,10 +161,6 @@ kept_stands step history before after change kept stands document back =
     }
 
 -- ---- an open step
-
--- the session with another document and other changes of an open step
-abbrev pub with_open : Document → Option (List Change) → Standing → Standing
-with_open document pending session = record { document = document; undo = session.undo; redo = session.redo; depth = session.depth; marks = session.marks; pending = pending }
 
 pub open_held : (undo_room redo_room : ℕ) (session : Standing) (document : Document) (pending : Option (List Change)) → IsHeld undo_room redo_room session → IsDocument document → FitAlong (changes_in pending) document → go_along (changes_in pending) document ≡ closed_document session → IsHeld undo_room redo_room (with_open document pending session)
 open_held undo_room redo_room session document pending held valid fit leads =

@@ -31,7 +31,8 @@ use Rattle.mvt_history.proofs.Closed.{is_closed, stands_present}
 use Rattle.mvt_history_steps.proofs.Joined.{after_accepted, lead_out_more, lead_out_stopped, between_commands, lead_out_along, lead_out_joined}
 use Rattle.mvt_history_steps.proofs.Following.{all_joined}
 use Rattle.mvt_history_steps.proofs.Turned.{length_turned}
-use Rattle.mvt_history.proofs.Keeping.{fit_taken, fit_dropped, along_dropped, along_makes, IsKept, kept_held, kept_stands, with_open, open_held, open_stands}
+use Rattle.mvt_history.specs.Kept.{CarriesOut, IsEnded, IsKept, KeepsNext, with_open}
+use Rattle.mvt_history.proofs.Keeping.{fit_taken, fit_dropped, along_dropped, along_makes, kept_held, kept_stands, open_held, open_stands}
 
 -- ---- as the code keeps it
 
@@ -264,3 +265,32 @@ step_cancelled history session changes is stands =
       rw opened refl,
       open_stands None history session (go_along changes session.document) None stands document tt,
     )
+
+-- ---- what is kept of a command
+
+-- where no step is open; `seen` is the session as contracts see it before
+pub alone_carries : (command : Command) (seen before after : Standing) (change : Change) → before ≡ seen → before.pending ≡ None → IsKept before after (turn change before.document) → IsPrepared command before.document change → after.document ≡ go change before.document → CarriesOut command seen after
+alone_carries command seen before after change same none kept prepared document =
+    subst (λ session. CarriesOut command session after) same
+    (record { change = change; prepared = prepared; document = document; keeps = subst (λ pending. KeepsNext pending (turn change before.document) before after) (sym none) kept })
+
+-- where one is
+pub within_carries : (command : Command) (seen before : Standing) (changes : List Change) (change : Change) → before ≡ seen → before.pending ≡ Some changes → IsPrepared command before.document change → CarriesOut command seen (with_open (go change before.document) (Some (turn change before.document ∷ changes)) before)
+within_carries command seen before changes change same some prepared =
+    let after = with_open (go change before.document) (Some (turn change before.document ∷ changes)) before in
+    subst (λ session. CarriesOut command session after) same
+    (record { change = change; prepared = prepared; document = refl; keeps = subst (λ pending. KeepsNext pending (turn change before.document) before after) (sym some) refl })
+
+-- ---- what is kept where a step ends
+
+pub empty_ends : (seen before : Standing) → before ≡ seen → before.pending ≡ Some [] → IsEnded seen.pending seen (with_open before.document None before)
+empty_ends seen before same none = subst (λ session. IsEnded session.pending session (with_open before.document None before)) same (subst (λ pending. IsEnded pending before (with_open before.document None before)) (sym none) refl)
+
+joined_ends : (before after : Standing) (changes : List Change) → 1 ≤ length changes → after.document ≡ before.document → IsKept before after (joined changes) → IsEnded (Some changes) before after
+joined_ends before after [] some document kept = absurd (omega (arith, some))
+joined_ends before after (change ∷ changes) some document kept = (document, kept)
+
+pub step_ends : (seen before after : Standing) (changes : List Change) → before ≡ seen → before.pending ≡ Some changes → 1 ≤ length changes → after.document ≡ before.document → IsKept before after (joined changes) → IsEnded seen.pending seen after
+step_ends seen before after changes same is some document kept =
+    subst (λ session. IsEnded session.pending session after) same
+    (subst (λ pending. IsEnded pending before after) (sym is) (joined_ends before after changes some document kept))

@@ -9,6 +9,7 @@ use Rattle.mvt_history_steps.specs.History.{History, at_point, with_marks, marke
 use Rattle.mvt_history_steps.specs.Moves.{walk_in, moved_along, LeadsAlong}
 use Rattle.mvt_history_steps.specs.Standing.{Standing, IsReady}
 use Rattle.mvt_history_steps.specs.Held.{IsReached, IsHeld}
+use Rattle.mvt_history.specs.Kept.{with_names}
 use Rattle.mvt_history.specs.Refusing.{has_room}
 use Rattle.mvt_history_steps.specs.Session.{StandsFor, Answers, IsOnTheWay, StopsAt, AnswersBack}
 use Rattle.mvt_history_steps.specs.declared.TheConstants.{MAX_MARKS}
@@ -22,10 +23,6 @@ use Rattle.mvt_history_steps.proofs.MarkOrder.{all_bound, order_bound, order_unb
 use Rattle.mvt_history_steps.proofs.Sound.{sound_bound, sound_unbound}
 use Rattle.mvt_history.proofs.Closed.{is_closed}
 use Rattle.mvt_history.proofs.Moving.{walked_stands}
-
--- the session with these marks
-abbrev pub with_names : List Mark → Standing → Standing
-with_names marks session = record { document = session.document; undo = session.undo; redo = session.redo; depth = session.depth; marks = marks; pending = session.pending }
 
 -- ---- the same names are marked in the history
 

@@ -16,8 +16,10 @@
 //! - How many steps undo and redo can go, the depth, the marks, and how many commands the open step
 //!   has: `undo_len`, `redo_len`, `depth`, `mark_count`, `mark_at` and `open_len`.
 //! - What is kept for undo and redo are changes, one for each step, and never a second document:
-//!   each fits where it is carried out, and leads to the next document (`StandsFor`). Each of the
-//!   two lists of changes has room for as many as the depth from the start of a session, and
+//!   each fits where it is carried out, and leads to the next document (`StandsFor`). Which ones
+//!   is stated exactly (`kept`): a command adds what leads back over a change that is prepared for
+//!   it (`CarriesOut`), the end of a step joins those of its commands (`IsEnded`), undo, redo and
+//!   `back` turn the next ones (`IsMoved`), and marks change none. Each of the two lists of changes has room for as many as the depth from the start of a session, and
 //!   together they never have more: its type keeps that. No contract says how much memory a change
 //!   takes; what it weighs is the bytes of the items that it holds, as they are written.
 //! - Conditions: the document is one (`IsDocument`), as everything that is read is, and the depth

@@ -1,7 +1,7 @@
 //! The session: its document, the changes for undo and redo, the marks and the open step; each
 //! request.
 
-ghost use Rattle.std.specs.Prelude.{◌≡◌, ◌∷◌, ◌<◌, ◌≤◌, ◌⊎◌, if◌then◌else◌, is_ok, is_some, None, Ok, Err, OnOk, OnErr, IfOk, IfErr, IsSomeAnd, length, option_map, slice_get};
+ghost use Rattle.std.specs.Prelude.{◌≡◌, [], ◌∷◌, ◌<◌, ◌≤◌, ◌⊎◌, if◌then◌else◌, is_ok, is_some, None, Some, Ok, Err, OnOk, OnErr, IfOk, IfErr, IsSomeAnd, length, option_map, slice_get};
 ghost use Rattle.mvt_history_steps.specs.declared.error.HistoryError.TheVariants.{GroupOpen, NoMemory};
 ghost use Rattle.mvt_document.specs.Stands.{document_of};
 ghost use Rattle.mvt_document.specs.Opens.{IsDocument};
@@ -10,11 +10,13 @@ ghost use Rattle.mvt_change.specs.ChangeStands.{change_of};
 ghost use Rattle.mvt_change.specs.Changes.{Fits, go, turn};
 ghost use Rattle.mvt_history_steps.specs.declared.TheConstants.{MAX_DEPTH};
 ghost use Rattle.mvt_history_steps.specs.Held.{from_last};
-ghost use Rattle.mvt_history_steps.specs.Marks.{point_of};
+ghost use Rattle.mvt_history_steps.specs.Marks.{bound, point_of, unbound};
 ghost use Rattle.mvt_history_steps.specs.History.{History, begun, closed, marked, opened, redone, standing_document, undone, unmarked};
 ghost use Rattle.mvt_history_steps.specs.Moves.{gone, moved_along, walk_in};
 ghost use Rattle.mvt_history_steps.specs.Standing.{IsReady};
+ghost use Rattle.mvt_history_steps.specs.declared.steps.Direction.TheVariants.{Undo, Redo};
 ghost use Rattle.mvt_history_steps.specs.Session.{Answers, AnswersBack, AnswersCancel, AnswersCommand, AnswersWithMemory, IsStop, NotStarted, SeesMark, StandsFor};
+ghost use Rattle.mvt_history.specs.Kept.{CarriesOut, IsCancelled, IsEnded, IsMoved, with_names, with_open};
 ghost use Rattle.mvt_history.specs.Refusing.{ensured_ahead, has_room};
 
 use circular_buffer::HeapCircularBuffer;
@@ -159,6 +161,7 @@ impl Session {
     /// what was undone is forgotten. It is refused as `prepare` refuses it.
     pub fn command(&mut self, command: &Command) -> Result<(), Refusal>
         ensures answer { (history : History) → StandsFor self.old history → AnswersCommand (command_of command.now) history result self.new }
+        ensures kept { OnOk result (CarriesOut (command_of command.now) self.old self.new) }
         ensures err { OnErr result (self.new ≡ self.old) }
     {
         let change = prepare(self.alloc, &self.document, command)?;
@@ -175,6 +178,7 @@ impl Session {
     /// goes back no further.
     pub fn undo(&mut self) -> Result<(), HistoryError>
         ensures answer { (history : History) → StandsFor self.old history → AnswersWithMemory (undone history) history result self.new }
+        ensures kept { OnOk result (self.new ≡ moved_along Undo 1 self.old) }
         ensures err { OnErr result (self.new ≡ self.old) }
     {
         self.step(Direction::Undo)
@@ -184,6 +188,7 @@ impl Session {
     /// `NothingToRedo` if none was.
     pub fn redo(&mut self) -> Result<(), HistoryError>
         ensures answer { (history : History) → StandsFor self.old history → AnswersWithMemory (redone history) history result self.new }
+        ensures kept { OnOk result (self.new ≡ moved_along Redo 1 self.old) }
         ensures err { OnErr result (self.new ≡ self.old) }
     {
         self.step(Direction::Redo)
@@ -193,6 +198,7 @@ impl Session {
     /// there is none.
     fn step(&mut self, direction: Direction) -> Result<(), HistoryError>
         ensures answer { (history : History) → StandsFor self.old history → AnswersWithMemory (gone direction history) history result self.new }
+        ensures kept { OnOk result (self.new ≡ moved_along direction 1 self.old) }
         ensures err { OnErr result (self.new ≡ self.old) }
     {
         self.ensure_closed()?;
@@ -243,6 +249,7 @@ impl Session {
     /// `TooManyMarks` for a new name if there are `MAX_MARKS`.
     pub fn mark(&mut self, name: &[u8]) -> Result<(), HistoryError>
         ensures answer { (history : History) → StandsFor self.old history → AnswersWithMemory (marked name.now history) history result self.new }
+        ensures kept { OnOk result (self.new ≡ with_names (bound name.now (length self.old.undo) self.old.marks) self.old) }
         ensures err { OnErr result (self.new ≡ self.old) }
         ensures no_memory { IfErr result (λ error. error ≡ NoMemory → point_of name.now self.old.marks ≡ None) }
     {
@@ -265,6 +272,7 @@ impl Session {
     /// nothing.
     pub fn unmark(&mut self, name: &[u8]) -> Result<(), HistoryError>
         ensures answer { (history : History) → StandsFor self.old history → Answers (unmarked name.now history) history result self.new }
+        ensures kept { OnOk result (self.new ≡ with_names (unbound name.now self.old.marks) self.old) }
         ensures err { OnErr result (self.new ≡ self.old) }
     {
         self.ensure_closed()?;
@@ -276,6 +284,7 @@ impl Session {
     /// those before it stand, and `Stopped` says how many they are.
     pub fn back(&mut self, name: &[u8]) -> Result<(), HistoryError>
         ensures answer { (history : History) → StandsFor self.old history → AnswersBack name.now history result self.new }
+        ensures kept { IsMoved self.old self.new }
         ensures err { IfErr result (λ error. (self.new ≡ self.old) ⊎ IsStop error) }
     {
         self.ensure_closed()?;
@@ -290,6 +299,7 @@ impl Session {
     /// Opens a step: the commands from now on are one. `GroupOpen` if one is open.
     pub fn begin(&mut self) -> Result<(), HistoryError>
         ensures answer { (history : History) → StandsFor self.old history → Answers (opened history) history result self.new }
+        ensures kept { OnOk result (self.new ≡ with_open self.old.document (Some []) self.old) }
         ensures err { OnErr result (self.new ≡ self.old) }
     {
         self.ensure_closed()?;
@@ -301,6 +311,7 @@ impl Session {
     /// it was before it. If there is no memory, it stays open.
     pub fn end(&mut self) -> Result<(), HistoryError>
         ensures answer { (history : History) → StandsFor self.old history → AnswersWithMemory (closed history) history result self.new }
+        ensures kept { OnOk result (IsEnded self.old.pending self.old self.new) }
         ensures err { OnErr result (self.new ≡ self.old) }
         ensures no_memory { IfErr result (λ error. error ≡ NoMemory → IsSomeAnd self.old.pending (λ changes. 2 ≤ length changes)) }
     {
@@ -322,6 +333,7 @@ impl Session {
     /// `Stopped` says how many were taken back.
     pub fn cancel(&mut self) -> Result<(), HistoryError>
         ensures answer { (history : History) → StandsFor self.old history → AnswersCancel history result self.new }
+        ensures kept { IsCancelled result self.old self.new }
         ensures err { IfErr result (λ error. (self.new ≡ self.old) ⊎ IsStop error) }
     {
         let Some(pending) = &mut self.pending else {

@@ -8,8 +8,8 @@ use Rattle.mvt_meaning.specs.CommandStands.{command_of}
 use Rattle.mvt_history_steps.specs.Held.{from_last, standing_of}
 use Rattle.mvt_history.specs.Inside.{seen_in}
 use Rattle.mvt_history_steps.specs.Session.{StandsFor}
-use Rattle.mvt_history.proofs.Keeping.{IsKept}
-use Rattle.mvt_history.proofs.KeepingCommands.{is_kept, seen_open, seen_none, command_alone_held, command_alone, command_within_held, command_within}
+use Rattle.mvt_history.specs.Kept.{IsKept}
+use Rattle.mvt_history.proofs.KeepingCommands.{alone_carries, is_kept, seen_open, seen_none, command_alone_held, command_alone, command_within_held, command_within, within_carries}
 use Rattle.mvt_history.proofs.session.Session.command.Goals as goal
 
 -- ---- where a step is open
@@ -37,6 +37,13 @@ returns-in_ok-flip_onto-clause-answer c = λ history stands.
     let is = seen_open s.pending c.in-Some.pending c.in-Some.is in
     rw (c.in_ok-flip_onto.ensures.ok, c.in_ok-flip_onto.ensures.document)
     (command_within (command_of c.args.command.now) history session (from_last pending) (change_of change) is c.self.invariant.ready.valid c.in_ok-change.ensures before)
+
+pub returns-in_ok-flip_onto-clause-kept : goal.returns-in_ok-flip_onto-clause-kept
+returns-in_ok-flip_onto-clause-kept c =
+    let s = c.self.inside in
+    let is = seen_open s.pending c.in-Some.pending c.in-Some.is in
+    rw (c.in_ok-flip_onto.ensures.ok, c.in_ok-flip_onto.ensures.document)
+    (within_carries (command_of c.args.command.now) c.args.self.now (seen_in s) (from_last c.in-Some.pending.items) (change_of c.in_ok-change.change) c.self.view_is is c.in_ok-change.ensures)
 
 -- ---- where none is open
 
@@ -68,3 +75,9 @@ returns-in_ok-change-2-clause-answer c = λ history stands.
     let before = subst (λ s. StandsFor s history) (sym c.self.view_is) stands in
     let none = ap (option_map from_last) (seen_none s.pending c.in_default.not-Some) in
     command_alone (command_of c.args.command.now) history session _ (change_of c.in_ok-change.change) (kept c) none c.self.invariant.ready.valid c.in_ok-change.ensures c.in_ok-change-2.ensures.document before
+
+pub returns-in_ok-change-2-clause-kept : goal.returns-in_ok-change-2-clause-kept
+returns-in_ok-change-2-clause-kept c =
+    let s = c.self.inside in
+    let none = ap (option_map from_last) (seen_none s.pending c.in_default.not-Some) in
+    alone_carries (command_of c.args.command.now) c.args.self.now (seen_in s) _ (change_of c.in_ok-change.change) c.self.view_is none (kept c) c.in_ok-change.ensures c.in_ok-change-2.ensures.document

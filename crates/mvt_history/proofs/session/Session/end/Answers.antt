@@ -7,9 +7,9 @@ use Rattle.mvt_history_steps.specs.History.{closed}
 use Rattle.mvt_history_steps.specs.Held.{IsHeld, from_last, standing_of}
 use Rattle.mvt_history.specs.Inside.{seen_in}
 use Rattle.mvt_history_steps.specs.Session.{StandsFor}
-use Rattle.mvt_history.proofs.Keeping.{IsKept, with_open}
+use Rattle.mvt_history.specs.Kept.{IsKept, with_open}
 use Rattle.mvt_history_steps.proofs.Stepping.{length_from_last}
-use Rattle.mvt_history.proofs.KeepingCommands.{is_kept, joined_from, same_from_last, no_items, some_items, seen_open, ran_out_of_memory, on_error, empty_ended, end_accepted, ended_held, step_ended}
+use Rattle.mvt_history.proofs.KeepingCommands.{is_kept, joined_from, same_from_last, no_items, some_items, seen_open, ran_out_of_memory, on_error, empty_ended, empty_ends, end_accepted, ended_held, step_ended, step_ends}
 use Rattle.mvt_history.proofs.session.Session.end.Goals as goal
 
 -- ---- a step of no commands
@@ -23,6 +23,14 @@ returns-then-is_empty-clause-answer c = λ history stands.
     let is = seen_open s.pending c.in-Some.pending c.in-Some.is in
     let none = no_items pending.items pending.len pending.ok.0 c.if-is_empty.ensures in
     empty_ended history session (is ∙ ap (λ items. Some (from_last items)) none) before
+
+pub returns-then-is_empty-clause-kept : goal.returns-then-is_empty-clause-kept
+returns-then-is_empty-clause-kept c =
+    let s = c.self.inside in
+    let pending = c.in-Some.pending in
+    let is = seen_open s.pending c.in-Some.pending c.in-Some.is in
+    let none = no_items pending.items pending.len pending.ok.0 c.if-is_empty.ensures in
+    empty_ends c.args.self.now (seen_in s) c.self.view_is (is ∙ ap (λ items. Some (from_last items)) none)
 
 -- ---- out of memory
 
@@ -84,3 +92,11 @@ returns-clause-answer c = λ history stands.
     let is = seen_open s.pending c.in-Some.pending c.in-Some.is in
     let some = rw (← length_from_last pending.items) at (some_items pending.items pending.len pending.ok.0 c.if-is_empty.ensures) in
     step_ended history session _ (from_last pending.items) (kept c) is some refl before
+
+pub returns-clause-kept : goal.returns-clause-kept
+returns-clause-kept c =
+    let s = c.self.inside in
+    let pending = c.in-Some.pending in
+    let is = seen_open s.pending c.in-Some.pending c.in-Some.is in
+    let some = rw (← length_from_last pending.items) at (some_items pending.items pending.len pending.ok.0 c.if-is_empty.ensures) in
+    step_ends c.args.self.now (seen_in s) _ (from_last pending.items) c.self.view_is is some refl (kept c)

@@ -3,11 +3,12 @@ use Rattle.mvt_history_steps.specs.Marks.{bound}
 use Rattle.mvt_history_steps.specs.History.{History, marked}
 use Rattle.mvt_history_steps.specs.Held.{IsHeld, mark_of}
 use Rattle.mvt_history.specs.Inside.{seen_in}
+use Rattle.mvt_history.specs.Kept.{with_names}
 use Rattle.mvt_history.specs.Refusing.{has_room}
 use Rattle.mvt_history_steps.specs.Session.{StandsFor}
 use Rattle.mvt_history_steps.proofs.Stepping.{length_from_last}
 use Rattle.mvt_history.proofs.Moving.{seen_closed}
-use Rattle.mvt_history.proofs.Marking.{with_names, marked_held, marked_answers, marked_refused}
+use Rattle.mvt_history.proofs.Marking.{marked_held, marked_answers, marked_refused}
 use Rattle.mvt_history.proofs.session.Session.mark.Goals as goal
 
 pub returns-then-not-has_room-clause-answer : goal.returns-then-not-has_room-clause-answer

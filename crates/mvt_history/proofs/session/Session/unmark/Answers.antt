@@ -5,9 +5,10 @@ use Rattle.mvt_history_steps.specs.History.{unmarked}
 use Rattle.mvt_history_steps.specs.Held.{IsHeld}
 use Rattle.mvt_history.specs.Inside.{seen_in}
 use Rattle.mvt_history_steps.specs.Session.{StandsFor, Answers}
+use Rattle.mvt_history.specs.Kept.{with_names}
 use Rattle.mvt_history_steps.specs.declared.error.HistoryError.TheVariants.{NoMark}
 use Rattle.mvt_history.proofs.Moving.{seen_closed}
-use Rattle.mvt_history.proofs.Marking.{with_names, unmarked_held, unmark_answers, unmark_kept}
+use Rattle.mvt_history.proofs.Marking.{unmarked_held, unmark_answers, unmark_kept}
 use Rattle.mvt_history.proofs.session.Session.unmark.Goals as goal
 
 pub invariant_of-self : goal.invariant_of-self
