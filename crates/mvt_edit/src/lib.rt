@@ -6,7 +6,8 @@
 //!   and only where the command asks for memory (`AsksForMemory`). The change fits the document, so
 //!   `flip` carries it out; it holds no more bytes than the command puts in, what leads back no more
 //!   than the command takes out, and its steps are at most one plus half as many as these bytes
-//!   together. The document is not touched: `prepare`.
+//!   together; seven commands have exactly one (`is_one_step`). The document is not touched:
+//!   `prepare`.
 #![tactic(auto)]
 
 mod commands;

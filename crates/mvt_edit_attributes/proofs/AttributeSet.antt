@@ -258,4 +258,5 @@ module _ (choice : LayerChoice) (key : List ℕ) (value : Value) (document : Doc
             puts = omega (arith, both.puts_so, given_puts, puts);
             takes = omega (arith, both.takes_so, takes);
             steps = omega (arith, length-append first second, length-map (cons_option run []) (in_feature_at position item), length-map splices (in_layer_at position), few, few_entries, heavy, given_puts, puts);
+            one = λ is. absurd cc;
           })

@@ -95,4 +95,5 @@ module _ (key : List ℕ) where
         puts = rw selects (omega (arith, puts));
         takes = rw selects (omega (arith, takes));
         steps = rw selects (omega (arith, come.few_so, come.takes_so, come.puts_so, takes, puts));
+        one = λ is. absurd cc;
       })

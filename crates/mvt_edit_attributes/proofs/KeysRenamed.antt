@@ -237,6 +237,7 @@ module _ (choice : LayerChoice) (old new : List ℕ) (document : Document) (ordi
           puts = omega arith;
           takes = omega arith;
           steps = omega arith;
+          one = λ is. absurd cc;
         }
 
     -- otherwise the steps that rename them
@@ -260,4 +261,5 @@ module _ (choice : LayerChoice) (old new : List ℕ) (document : Document) (ordi
           puts = omega (arith, puts);
           takes = omega (arith, takes);
           steps = omega (arith, few, count, heavy, taken_keys, length-map splices (in_layer_at position));
+          one = λ is. absurd cc;
         })

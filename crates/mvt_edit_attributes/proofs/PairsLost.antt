@@ -69,4 +69,5 @@ module _ (choice : LayerChoice) (key : List ℕ) (document : Document) (ordinal 
             puts = rw (chosen, selected_here, fields, items) (omega (arith, puts));
             takes = rw (chosen, selected_here, fields, items) (omega (arith, takes));
             steps = rw (chosen, selected_here, fields, items) (omega (arith, few));
+            one = λ is. absurd cc;
           })

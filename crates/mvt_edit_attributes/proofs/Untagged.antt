@@ -122,6 +122,7 @@ untags choice document found change selects steps =
       puts = omega arith;
       takes = rw selects (omega arith);
       steps = rw selects (omega (arith, come.few_so, come.takes_so, come.puts_so, takes));
+      one = λ is. absurd cc;
     })
 
 -- where layers are selected it is accepted

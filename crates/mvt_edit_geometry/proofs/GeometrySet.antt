@@ -149,4 +149,5 @@ module _ (choice : LayerChoice) (geometry : Geometry) (document : Document) (ord
               puts = omega (arith, both.puts_so, put_is, alone, kinds);
               takes = omega (arith, both.takes_so, taken_is);
               steps = omega (arith, length-map splices at, few, ap length kept, heavy, taken_is, put_is, alone, drawing_long (encoded geometry));
+              one = λ is. absurd cc;
             })

@@ -78,4 +78,5 @@ module _ (choice : LayerChoice) (dx dy : ℤ) (document : Document) (ordinal pos
               puts = rw (chosen, selected_here, fields) (omega (arith, puts));
               takes = rw (chosen, selected_here, fields) (omega (arith, takes));
               steps = rw (chosen, selected_here, fields) (omega (arith, few));
+              one = λ is. absurd cc;
             })

@@ -67,6 +67,7 @@ module _ (choice : LayerChoice) (document : Document) (ordinal position : ℕ) (
         puts = omega arith;
         takes = rw chosen (omega arith);
         steps = omega arith;
+        one = λ _. refl;
       })
 
   -- where a feature is selected
@@ -100,6 +101,7 @@ module _ (choice : LayerChoice) (document : Document) (ordinal position : ℕ) (
             puts = omega arith;
             takes = rw (chosen, selected_here, are) (omega arith);
             steps = omega arith;
+            one = λ _. refl;
           })
 
       -- where the steps take out the id fields
@@ -121,6 +123,7 @@ module _ (choice : LayerChoice) (document : Document) (ordinal position : ℕ) (
             puts = omega arith;
             takes = rw (chosen, selected_here, are) (omega arith);
             steps = rw (chosen, selected_here, are) (omega (arith, length-map splices (in_feature_at position item)));
+            one = λ is. absurd cc;
           })
 
   -- where no feature is selected

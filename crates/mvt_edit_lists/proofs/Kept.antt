@@ -82,4 +82,5 @@ keeps names document change steps fewer heavy =
       puts = omega arith;
       takes = omega arith;
       steps = omega (arith, length-map splices in_tile);
+      one = λ is. absurd cc;
     })

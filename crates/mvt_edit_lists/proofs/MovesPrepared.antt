@@ -51,6 +51,7 @@ layer_moves choice index ordinal position to document chosen from there =
       puts = omega arith;
       takes = omega arith;
       steps = omega arith;
+      one = λ _. refl;
     }
 
 -- a move that is accepted asks for memory
@@ -93,6 +94,7 @@ module _ (choice : LayerChoice) (ordinal position : ℕ) (document : Document) (
         puts = omega arith;
         takes = omega arith;
         steps = omega arith;
+        one = λ _. refl;
       }
 
   -- a move that is accepted asks for memory

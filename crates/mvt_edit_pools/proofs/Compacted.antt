@@ -29,7 +29,7 @@ use Rattle.mvt_meaning.specs.Weights.{compact_puts, compact_takes, layers_weight
 use Rattle.mvt_meaning.specs.declared.refusal.Refusal.{Refusal}
 use Rattle.mvt_meaning.proofs.Asking.{stands}
 use Rattle.mvt_meaning.proofs.Compaction.{new_ordinals_short}
-use Rattle.mvt_edit_steps.specs.Prepared.{IsPrepared}
+use Rattle.mvt_edit_steps.specs.Prepared.{IsPrepared, is_one_step}
 use Rattle.mvt_edit_steps.proofs.Come.{Carries, CarriesIn}
 use Rattle.mvt_edit_steps.proofs.EachLayer.{InTile, each_found, layers_made}
 use Rattle.mvt_edit_steps.proofs.FieldsLeft.{fields_left}
@@ -88,11 +88,12 @@ module _ (keys values : List plain.LayerItem → ℕ → Bool) where
   -- ---- a command that means this
 
   prepared : (command : Command) (choice : LayersChoice) (document : Document) (found : List (ℕ × (ℕ × plain.Layer))) (steps : Change)
+      → is_one_step command ≡ false
       → applied command (document_of document) ≡ change_readable (compacted keys values) choice (document_of document)
       → put_by command (document_of document) ≡ layers_weight (compact_puts keys values) choice (document_of document)
       → taken_by command (document_of document) ≡ layers_weight (compact_takes keys values) choice (document_of document)
       → selected_layers choice (document_of document) ≡ Ok found → unreadable found ≡ [] → steps ≡ flat_map (compacting keys values) found → IsPrepared command (document_of document) steps
-  prepared command choice document found steps is puts takes selects readable are =
+  prepared command choice document found steps several is puts takes selects readable are =
       let made = layers_made (λ at. compacting keys values (0, at)) (compacted keys values) (puts_of keys values) (takes_of keys values) (Holds keys values)
       (λ position layer tile there holds. comes keys values position layer tile there holds) choice (document_of document) found selects (layers_hold document.items.items) in
       let come = made.come in
@@ -107,14 +108,15 @@ module _ (keys values : List plain.LayerItem → ℕ → Bool) where
         puts = omega (arith, puts, put, all_put, come.puts_so);
         takes = omega (arith, takes, taken, all_taken, come.takes_so);
         steps = omega (arith, puts, put, all_put, takes, taken, all_taken, come.few_so);
+        one = λ alone. absurd (let no = sym several ∙ alone in cc);
       })
 
 -- ---- the commands
 
 pub compacts : (pools : Pools) (choice : LayersChoice) (document : Document) (found : List (ℕ × (ℕ × plain.Layer))) (steps : Change) → selected_layers choice (document_of document) ≡ Ok found → unreadable found ≡ [] → steps ≡ flat_map (compacting (keys_stay pools) (values_stay pools)) found → IsPrepared (compaction pools choice) (document_of document) steps
-compacts Keys choice document found steps selects readable are = prepared is_key_used is_any (compaction Keys choice) choice document found steps refl refl refl selects readable are
-compacts Values choice document found steps selects readable are = prepared is_any is_value_used (compaction Values choice) choice document found steps refl refl refl selects readable are
-compacts Both choice document found steps selects readable are = prepared is_key_used is_value_used (compaction Both choice) choice document found steps refl refl refl selects readable are
+compacts Keys choice document found steps selects readable are = prepared is_key_used is_any (compaction Keys choice) choice document found steps refl refl refl refl selects readable are
+compacts Values choice document found steps selects readable are = prepared is_any is_value_used (compaction Values choice) choice document found steps refl refl refl refl selects readable are
+compacts Both choice document found steps selects readable are = prepared is_key_used is_value_used (compaction Both choice) choice document found steps refl refl refl refl selects readable are
 
 -- where layers are selected, memory is asked for
 pub compaction_asks : (pools : Pools) (choice : LayersChoice) (document : plain.Document) (found : List (ℕ × (ℕ × plain.Layer))) → selected_layers choice document ≡ Ok found → AsksForMemory (compaction pools choice) document

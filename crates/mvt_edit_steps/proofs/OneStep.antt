@@ -40,6 +40,7 @@ prepared_by_one command document after step put taken carries means puts takes =
   puts = omega (arith, weight_of_one step, carries.puts, puts);
   takes = omega (arith, weight_of_one (turn_step step document), carries.takes, takes);
   steps = omega arith;
+  one = λ _. refl;
 }
 
 -- the change of the step if a file can hold what it makes, and otherwise the refusal
