@@ -7,15 +7,15 @@ use Rattle.mvt_geometry.specs.Shapes.{Geometry, IsGeometry}
 use Rattle.tile_text.specs.Texts.{text_form, value_form, raw_form, geometry_form}
 use Rattle.tile_text.specs.ReadBack.{AreBytes, HoldsBytes, IsNear, IsReadAsText, IsReadAsValue, IsReadAsGeometry}
 
--- the form of any bytes is read as those bytes
+-- the form of any bytes is a word that says those bytes
 abbrev pub TextsReadBack : Type 0
 TextsReadBack = (bytes : List ℕ) → AreBytes bytes → IsReadAsText bytes
 
--- the form of a value in range is read as that value
+-- the form of a value in range is two words that say that value
 abbrev pub ValuesReadBack : Type 0
 ValuesReadBack = (value : Value) → IsWritable value → HoldsBytes value → IsReadAsValue value
 
--- the form of a valid geometry whose points are near is read as that geometry
+-- the form of a valid geometry whose points are near is words that say that geometry
 abbrev pub GeometriesReadBack : Type 0
 GeometriesReadBack = (g : Geometry) → IsGeometry g → AllByRecursion (AllByRecursion IsNear) g.parts → IsReadAsGeometry g
 

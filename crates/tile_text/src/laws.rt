@@ -2,18 +2,20 @@
 
 ghost use Rattle.tile_text.specs.Laws.{TextsReadBack, ValuesReadBack, GeometriesReadBack, TextsStandOnALine, ValuesStandOnALine, RawStandsOnALine, GeometriesStandOnALine};
 
-/// A script reads the form of any bytes as those bytes.
+/// The form of any bytes is a word that says those bytes. So a script reads it as those bytes, where
+/// a line has room for it: a line has at most 65,536 bytes.
 pub fn texts_read_back()
     ensures { TextsReadBack }
 {}
 
-/// A script reads the form of a value in range as that value.
+/// The form of a value in range is two words that say that value. So a script reads it as that
+/// value, where a line has room for both.
 pub fn values_read_back()
     ensures { ValuesReadBack }
 {}
 
-/// A script reads the form of a valid geometry, whose coordinates are from -2147483647 to
-/// 2147483647, as that geometry.
+/// The form of a valid geometry, whose coordinates are from -2147483647 to 2147483647, is words that
+/// say that geometry. So a script reads it as that geometry, where a line has room for them.
 pub fn geometries_read_back()
     ensures { GeometriesReadBack }
 {}
