@@ -1,27 +1,25 @@
 -- What holds of the document at the start, and of what each valid command makes, holds throughout a history.
-use Rattle.std.proofs.Common.{◌≡◌, ℕ, ◌+◌, ◌-◌, ◌≤◌, ◌==◌, ◌||◌, is_some, nat_lt, Option, Some, None, Result, Ok, Err, IfOk, List, [], ◌∷◌, ◌++◌, length, take, refl}
+use Rattle.std.proofs.Common.{◌≡◌, ℕ, ◌+◌, ◌-◌, ◌==◌, ◌||◌, is_some, nat_lt, Option, Some, None, Result, Ok, Err, IfOk, List, [], ◌∷◌, ◌++◌, length, take, refl}
 use Rattle.std.proofs.lemmas.Bool.{cond_both}
 use Rattle.std.specs.List.{AllByRecursion}
 use Rattle.std.specs.Result.{result_unwrap_or}
-use Rattle.mvt_document.specs.declared.TheConstants.{MAX_FILE}
 use Rattle.mvt_document.specs.Opens.{IsDocument}
 use Rattle.mvt_document.specs.Plain.{Document}
-use Rattle.mvt_document.specs.Wire.{bytes_of}
 use Rattle.mvt_meaning.specs.Command.{Command, IsCommand}
 use Rattle.mvt_meaning.specs.Meaning.{after, applied}
 use Rattle.mvt_meaning.specs.declared.refusal.Refusal.{Refusal}
 use Rattle.command_laws.proofs.Documents.{command_makes_document}
 use Rattle.command_laws.proofs.Lengths.{command_fits}
 use Rattle.mvt_document.proofs.EachItem.{all_joined, all_taken}
-use Rattle.mvt_history_steps.specs.Marks.{bound, point_of, unbound}
-use Rattle.mvt_history_steps.specs.History.{History, after_all, after_steps, present_document, standing_document, commands_in, at_point, with_marks, with_group, with_step, with_command, edited_to, edited, unless_open, undone, redone, marked, unmarked, gone_to, gone_back, opened, ended, closed, cancelled}
+use Rattle.mvt_history_steps.specs.Marks.{Mark, bound, point_of, unbound}
+use Rattle.mvt_history_steps.specs.History.{History, begun, after_all, after_steps, present_document, standing_document, commands_in, at_point, with_marks, with_group, with_step, with_command, edited_to, edited, unless_open, undone, redone, marked, unmarked, gone_to, gone_back, opened, ended, closed, cancelled}
 use Rattle.mvt_meaning.specs.Requests.{HistoryRequest, Edit, Undo, Redo, SetMark, TakeMark, GoBack, Begin, End, Cancel}
 use Rattle.mvt_history_steps.specs.Requests.{asked}
 use Rattle.mvt_history_steps.proofs.Sound.{or_before_has}
 use Rattle.mvt_history_steps.specs.declared.TheConstants.{MAX_MARKS}
 use Rattle.mvt_history_steps.specs.declared.error.HistoryError.{HistoryError}
 use Rattle.mvt_history_steps.specs.declared.error.HistoryError.TheVariants.{NothingToUndo, NothingToRedo, NoMark, TooManyMarks, NoGroup}
-use Rattle.history_laws.specs.Laws.{HasCommands, HistoryFits, HistoryOfDocuments, HoldsThroughout, IsRequest, StaysValid}
+use Rattle.history_laws.specs.Laws.{FitsAFile, HasCommands, HistoryFits, HistoryOfDocuments, HoldsThroughout, IsRequest, StaysValid}
 
 -- ---- documents
 
@@ -57,74 +55,83 @@ history_of_documents history valid commands = throughout IsDocument document_aft
 
 -- ---- the limit
 
--- a document that a file can hold
-record Held (document : Document) : Type 0 where
-  valid : IsDocument document
-  within : length (bytes_of document) ≤ MAX_FILE
-
-held_after : (command : Command) (document : Document) → IsCommand command → Held document → Held (after command document)
-held_after command document fits held =
-    after_holds Held document (applied command document) held
-    (λ new made. record { valid = command_makes_document command document new fits held.valid made; within = command_fits command document new held.valid held.within made })
+fits_after : (command : Command) (document : Document) → IsCommand command → FitsAFile document → FitsAFile (after command document)
+fits_after command document valid fits =
+    after_holds FitsAFile document (applied command document) fits
+    (λ new made. record { valid = command_makes_document command document new valid fits.valid made; within = command_fits command document new fits.valid fits.within made })
 
 pub history_fits : HistoryFits
-history_fits history valid commands within =
-    let all = throughout Held held_after history commands (record { valid = valid; within = within }) in
-    record { points = λ point. (all.points point).within; within = λ count. (all.within count).within; standing = all.standing.within }
+history_fits history fits commands = throughout FitsAFile fits_after history commands fits
 
 -- ---- requests
 
-with_step_valid : (step : List Command) (history : History) → AllByRecursion IsCommand step → HasCommands history → HasCommands (with_step step history)
-with_step_valid step history new valid =
-    record { steps = all_joined (AllByRecursion IsCommand) (take history.present history.steps) (step ∷ []) (all_taken (AllByRecursion IsCommand) history.present history.steps valid.steps) (new, tt); group = tt }
+module _ (start : Document) where
+  -- the history began with this document, and its commands are valid
+  pub record IsFrom (history : History) : Type 0 where
+    pub began : history.start ≡ start
+    pub commands : HasCommands history
 
-with_group_valid : (group : Option (List Command)) (history : History) → AllByRecursion IsCommand (commands_in group) → HasCommands history → HasCommands (with_group group history)
-with_group_valid group history new valid = record { steps = valid.steps; group = new }
+  with_step_valid : (step : List Command) (history : History) → AllByRecursion IsCommand step → IsFrom history → IsFrom (with_step step history)
+  with_step_valid step history new valid =
+      let first = take history.present history.steps in
+      let standing = all_taken (AllByRecursion IsCommand) history.present history.steps valid.commands.steps in
+      record { began = valid.began; commands = record { steps = all_joined (AllByRecursion IsCommand) first (step ∷ []) standing (new, tt); group = tt } }
 
-at_point_valid : (point : ℕ) (history : History) → HasCommands history → HasCommands (at_point point history)
-at_point_valid point history valid = record { steps = valid.steps; group = valid.group }
+  pub with_group_valid : (group : Option (List Command)) (history : History) → AllByRecursion IsCommand (commands_in group) → IsFrom history → IsFrom (with_group group history)
+  with_group_valid group history new valid = record { began = valid.began; commands = record { steps = valid.commands.steps; group = new } }
 
-with_command_valid : (command : Command) (group : Option (List Command)) (history : History) → IsCommand command → AllByRecursion IsCommand (commands_in group) → HasCommands history → HasCommands (with_command command group history)
-with_command_valid command None history new pending valid = with_step_valid (command ∷ []) history (new, tt) valid
-with_command_valid command (Some commands) history new pending valid = with_group_valid (Some (commands ++ command ∷ [])) history (all_joined IsCommand commands (command ∷ []) pending (new, tt)) valid
+  pub at_point_valid : (point : ℕ) (history : History) → IsFrom history → IsFrom (at_point point history)
+  at_point_valid point history valid = record { began = valid.began; commands = record { steps = valid.commands.steps; group = valid.commands.group } }
 
-edited_valid : (command : Command) (history : History) (made : Result Document Refusal) → IsCommand command → HasCommands history → IfOk (edited_to command history made) HasCommands
-edited_valid command history (Ok document) new valid = with_command_valid command history.group history new valid.group valid
-edited_valid command history (Err refusal) new valid = tt
+  with_marks_valid : (marks : List Mark) (history : History) → IsFrom history → IsFrom (with_marks marks history)
+  with_marks_valid marks history valid = record { began = valid.began; commands = record { steps = valid.commands.steps; group = valid.commands.group } }
 
-unless_open_valid : (group : Option (List Command)) (answer : Result History HistoryError) → IfOk answer HasCommands → IfOk (unless_open group answer) HasCommands
-unless_open_valid None answer valid = valid
-unless_open_valid (Some commands) answer valid = tt
+  with_command_valid : (command : Command) (group : Option (List Command)) (history : History) → IsCommand command → AllByRecursion IsCommand (commands_in group) → IsFrom history → IsFrom (with_command command group history)
+  with_command_valid command None history new pending valid = with_step_valid (command ∷ []) history (new, tt) valid
+  with_command_valid command (Some commands) history new pending valid = with_group_valid (Some (commands ++ command ∷ [])) history (all_joined IsCommand commands (command ∷ []) pending (new, tt)) valid
 
-gone_valid : (found : Option ℕ) (history : History) → HasCommands history → IfOk (gone_to found history) HasCommands
-gone_valid None history valid = tt
-gone_valid (Some point) history valid = at_point_valid point history valid
+  edited_valid : (command : Command) (history : History) (made : Result Document Refusal) → IsCommand command → IsFrom history → IfOk (edited_to command history made) IsFrom
+  edited_valid command history (Ok document) new valid = with_command_valid command history.group history new valid.commands.group valid
+  edited_valid command history (Err refusal) new valid = tt
 
-ended_valid : (group : Option (List Command)) (history : History) → AllByRecursion IsCommand (commands_in group) → HasCommands history → IfOk (ended group history) HasCommands
-ended_valid None history pending valid = tt
-ended_valid (Some []) history pending valid = with_group_valid None history tt valid
-ended_valid (Some (command ∷ commands)) history pending valid = with_step_valid (command ∷ commands) history pending valid
+  unless_open_valid : (group : Option (List Command)) (answer : Result History HistoryError) → IfOk answer IsFrom → IfOk (unless_open group answer) IsFrom
+  unless_open_valid None answer valid = valid
+  unless_open_valid (Some commands) answer valid = tt
 
-asked_valid : (request : HistoryRequest) (history : History) → IsRequest request → HasCommands history → HasCommands (asked request history)
-asked_valid (Edit command) history new valid = or_before_has HasCommands history (edited command history) valid (edited_valid command history (applied command (standing_document history)) new valid)
-asked_valid Undo history new valid =
-    or_before_has HasCommands history (undone history) valid (unless_open_valid history.group _
-    (cond_both (history.present == history.floor) (Err NothingToUndo) (Ok (at_point (history.present - 1) history)) (λ answer. IfOk answer HasCommands) (λ _. tt) (λ _. at_point_valid (history.present - 1) history valid)))
-asked_valid Redo history new valid =
-    or_before_has HasCommands history (redone history) valid (unless_open_valid history.group _
-    (cond_both (history.present == length history.steps) (Err NothingToRedo) (Ok (at_point (history.present + 1) history)) (λ answer. IfOk answer HasCommands) (λ _. tt) (λ _. at_point_valid (history.present + 1) history valid)))
-asked_valid (SetMark name) history new valid =
-    or_before_has HasCommands history (marked name history) valid (unless_open_valid history.group _
-    (cond_both (is_some (point_of name history.marks) || nat_lt (length history.marks) MAX_MARKS) (Ok (with_marks (bound name history.present history.marks) history)) (Err TooManyMarks) (λ answer. IfOk answer HasCommands) (λ _. record { steps = valid.steps; group = valid.group }) (λ _. tt)))
-asked_valid (TakeMark name) history new valid =
-    or_before_has HasCommands history (unmarked name history) valid (unless_open_valid history.group _
-    (cond_both (is_some (point_of name history.marks)) (Ok (with_marks (unbound name history.marks) history)) (Err NoMark) (λ answer. IfOk answer HasCommands) (λ _. record { steps = valid.steps; group = valid.group }) (λ _. tt)))
-asked_valid (GoBack name) history new valid = or_before_has HasCommands history (gone_back name history) valid (unless_open_valid history.group (gone_to (point_of name history.marks) history) (gone_valid (point_of name history.marks) history valid))
-asked_valid Begin history new valid = or_before_has HasCommands history (opened history) valid (unless_open_valid history.group (Ok (with_group (Some []) history)) (with_group_valid (Some []) history tt valid))
-asked_valid End history new valid = or_before_has HasCommands history (closed history) valid (ended_valid history.group history valid.group valid)
-asked_valid Cancel history new valid =
-    or_before_has HasCommands history (cancelled history) valid
-    (cond_both (is_some history.group) (Ok (with_group None history)) (Err NoGroup) (λ answer. IfOk answer HasCommands) (λ _. with_group_valid None history tt valid) (λ _. tt))
+  gone_valid : (found : Option ℕ) (history : History) → IsFrom history → IfOk (gone_to found history) IsFrom
+  gone_valid None history valid = tt
+  gone_valid (Some point) history valid = at_point_valid point history valid
+
+  ended_valid : (group : Option (List Command)) (history : History) → AllByRecursion IsCommand (commands_in group) → IsFrom history → IfOk (ended group history) IsFrom
+  ended_valid None history pending valid = tt
+  ended_valid (Some []) history pending valid = with_group_valid None history tt valid
+  ended_valid (Some (command ∷ commands)) history pending valid = with_step_valid (command ∷ commands) history pending valid
+
+  pub asked_valid : (request : HistoryRequest) (history : History) → IsRequest request → IsFrom history → IsFrom (asked request history)
+  asked_valid (Edit command) history new valid = or_before_has IsFrom history (edited command history) valid (edited_valid command history (applied command (standing_document history)) new valid)
+  asked_valid Undo history new valid =
+      or_before_has IsFrom history (undone history) valid (unless_open_valid history.group _
+      (cond_both (history.present == history.floor) (Err NothingToUndo) (Ok (at_point (history.present - 1) history)) (λ answer. IfOk answer IsFrom) (λ _. tt) (λ _. at_point_valid (history.present - 1) history valid)))
+  asked_valid Redo history new valid =
+      or_before_has IsFrom history (redone history) valid (unless_open_valid history.group _
+      (cond_both (history.present == length history.steps) (Err NothingToRedo) (Ok (at_point (history.present + 1) history)) (λ answer. IfOk answer IsFrom) (λ _. tt) (λ _. at_point_valid (history.present + 1) history valid)))
+  asked_valid (SetMark name) history new valid =
+      let marks = bound name history.present history.marks in
+      or_before_has IsFrom history (marked name history) valid (unless_open_valid history.group _
+      (cond_both (is_some (point_of name history.marks) || nat_lt (length history.marks) MAX_MARKS) (Ok (with_marks marks history)) (Err TooManyMarks) (λ answer. IfOk answer IsFrom) (λ _. with_marks_valid marks history valid) (λ _. tt)))
+  asked_valid (TakeMark name) history new valid =
+      let marks = unbound name history.marks in
+      or_before_has IsFrom history (unmarked name history) valid (unless_open_valid history.group _
+      (cond_both (is_some (point_of name history.marks)) (Ok (with_marks marks history)) (Err NoMark) (λ answer. IfOk answer IsFrom) (λ _. with_marks_valid marks history valid) (λ _. tt)))
+  asked_valid (GoBack name) history new valid = or_before_has IsFrom history (gone_back name history) valid (unless_open_valid history.group (gone_to (point_of name history.marks) history) (gone_valid (point_of name history.marks) history valid))
+  asked_valid Begin history new valid = or_before_has IsFrom history (opened history) valid (unless_open_valid history.group (Ok (with_group (Some []) history)) (with_group_valid (Some []) history tt valid))
+  asked_valid End history new valid = or_before_has IsFrom history (closed history) valid (ended_valid history.group history valid.commands.group valid)
+  asked_valid Cancel history new valid =
+      or_before_has IsFrom history (cancelled history) valid
+      (cond_both (is_some history.group) (Ok (with_group None history)) (Err NoGroup) (λ answer. IfOk answer IsFrom) (λ _. with_group_valid None history tt valid) (λ _. tt))
+
+pub begun_valid : (document : Document) (depth : ℕ) → HasCommands (begun document depth)
+begun_valid document depth = record { steps = tt; group = tt }
 
 pub stays_valid : StaysValid
-stays_valid = (λ document depth. record { steps = tt; group = tt }, asked_valid)
+stays_valid = (begun_valid, λ request history new valid. (asked_valid history.start request history new (record { began = refl; commands = valid })).commands)

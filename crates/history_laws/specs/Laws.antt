@@ -1,10 +1,11 @@
 -- Laws of histories and sessions, in the words of a tile and of what is asked; and of what changes weigh.
-use Rattle.std.specs.Prelude.{◌≡◌, ℕ, zero, suc, ◌+◌, ◌-◌, ◌≤◌, List, [], ◌∷◌, length, take, get_or, Some, None, Ok, ◌*◌}
+use Rattle.std.specs.Prelude.{◌≡◌, ℕ, zero, suc, ◌+◌, ◌-◌, ◌^◌, ◌<◌, ◌≤◌, List, [], ◌∷◌, length, take, get_or, Some, None, Ok, ◌*◌}
 use Rattle.std.specs.List.{AllByRecursion, sum_by}
 use Rattle.mvt_document.specs.declared.TheConstants.{MAX_FILE}
-use Rattle.mvt_document.specs.Plain.{Field, LayerItem, TileItem, Document}
+use Rattle.mvt_document.specs.Plain.{Field, LayerItem, Layer, TileItem, Document}
 use Rattle.mvt_document.specs.Opens.{IsField, IsLayerItem, IsTileItem, IsDocument}
 use Rattle.mvt_document.specs.Wire.{bytes_of, field_bytes, layer_item_bytes, tile_item_bytes}
+use Rattle.mvt_messages.specs.Views.{keys, layers, values}
 use Rattle.mvt_change.specs.Changes.{Change, Step, SpliceStep, MoveStep, Fits, weight}
 use Rattle.mvt_change.specs.Joining.{go_along}
 use Rattle.mvt_meaning.specs.Command.{Command, IsCommand}
@@ -50,10 +51,15 @@ pub record HoldsThroughout (holds : Document → Type 0) (history : History) : T
 abbrev pub HistoryOfDocuments : Type 0
 HistoryOfDocuments = (history : History) → IsDocument history.start → HasCommands history → HoldsThroughout IsDocument history
 
--- where the document at the start is valid and a file can hold it, and the commands are valid, a file can hold all
+-- a valid document that a file can hold
+pub record FitsAFile (document : Document) : Type 0 where
+  pub valid : IsDocument document
+  pub within : length (bytes_of document) ≤ MAX_FILE
+
+-- where the document at the start is valid and a file can hold it, and the commands are valid, the same holds of all
 -- documents of the history
 abbrev pub HistoryFits : Type 0
-HistoryFits = (history : History) → IsDocument history.start → HasCommands history → length (bytes_of history.start) ≤ MAX_FILE → HoldsThroughout (λ document. length (bytes_of document) ≤ MAX_FILE) history
+HistoryFits = (history : History) → FitsAFile history.start → HasCommands history → HoldsThroughout FitsAFile history
 
 -- ---- undo, steps and marks
 
@@ -207,6 +213,15 @@ LayerItemWeighs = (item : LayerItem) → IsLayerItem item → 2 ≤ length (laye
 -- a valid item of a tile has at least two bytes
 abbrev pub TileItemWeighs : Type 0
 TileItemWeighs = (item : TileItem) → IsTileItem item → 2 ≤ length (tile_item_bytes item)
+
+-- the layer has fewer than 2 ^ 32 keys, and fewer than 2 ^ 32 values
+pub record HasFewKeys (layer : Layer) : Type 0 where
+  pub few_keys : length (keys layer) < 2 ^ 32
+  pub few_values : length (values layer) < 2 ^ 32
+
+-- each layer of a valid document that a file can hold has fewer than 2 ^ 32 keys, and fewer than 2 ^ 32 values
+abbrev pub LayersHaveFewKeys : Type 0
+LayersHaveFewKeys = (document : Document) → FitsAFile document → AllByRecursion HasFewKeys (layers document)
 
 -- how many items a step puts in
 abbrev pub put_count : Step → ℕ

@@ -1,7 +1,7 @@
 //! Laws of histories and sessions, and of what changes weigh. Each function does nothing: its contract is the law.
 #![tactic(auto)]
 
-ghost use Rattle.history_laws.specs.Laws.{BackToTheMark, CancelLeavesNoTrace, ChangesLead, EmptyStepLeavesNoTrace, FewSteps, FieldWeighs, HistoryFits, HistoryOfDocuments, KeptWithin, LayerItemWeighs, NothingPut, RedosUndoUndos, StaysSound, StaysValid, StepUndoesWhole, StoppedGoesOn, TileItemWeighs, UndoAfterEnd, UndoAtOnce, UndosUndoRedos};
+ghost use Rattle.history_laws.specs.Laws.{BackToTheMark, CancelLeavesNoTrace, ChangesLead, EmptyStepLeavesNoTrace, FewSteps, FieldWeighs, HistoryFits, HistoryOfDocuments, KeptWithin, LayerItemWeighs, LayersHaveFewKeys, NothingPut, RedosUndoUndos, StaysSound, StaysValid, StepUndoesWhole, StoppedGoesOn, TileItemWeighs, UndoAfterEnd, UndoAtOnce, UndosUndoRedos};
 
 /// The numbers and marks of a history (how many steps stand, how far undo goes back, which points
 /// are marked) are in order at first, at a depth of at least 1, and stay so under each request.
@@ -10,7 +10,7 @@ pub fn stays_sound()
 {}
 
 /// The commands of a history are valid when it begins, and stay so under each valid request, as
-/// each request of the program is.
+/// each request of a script is (`requests_are_valid`).
 pub fn stays_valid()
     ensures { StaysValid }
 {}
@@ -21,8 +21,8 @@ pub fn history_of_documents()
     ensures { HistoryOfDocuments }
 {}
 
-/// Where the tile at the start is a document that a file can hold and the commands are valid, a file
-/// can hold each tile of the history, each within the open step, and the one that stands.
+/// Where the tile at the start is a document that a file can hold and the commands are valid, so is
+/// each tile of the history, each within the open step, and the one that stands.
 pub fn history_fits()
     ensures { HistoryFits }
 {}
@@ -113,4 +113,11 @@ pub fn items_weigh()
     ensures layer_items { LayerItemWeighs }
     ensures tile_items { TileItemWeighs }
     ensures nothing { NothingPut }
+{}
+
+/// In a document that a file can hold, each layer has fewer than 2^32 keys and fewer than 2^32
+/// values. So each of them has an ordinal that tags can name, as it is below 2^32.
+#[tactic(auto, using(crate::proofs::Weighing::layers_have_few_keys))]
+pub fn layers_have_few_keys()
+    ensures { LayersHaveFewKeys }
 {}
