@@ -1,27 +1,23 @@
 -- What lines change, what they add to the replies, and how strict runs go.
-use Rattle.std.proofs.Common.{◌≡◌, ℕ, ◌+◌, Bool, true, false, List, [], ◌∷◌, ◌++◌, length, Option, Some, None, Result, Ok, Err, codes, refl, sym, ap, subst, ◌∙◌, inl, inr, append_assoc, append-nil, length-append, arith}
+use Rattle.std.proofs.Common.{◌≡◌, ℕ, ◌+◌, true, false, List, [], ◌∷◌, ◌++◌, length, Option, Some, None, Result, Ok, Err, codes, refl, sym, ap, ◌∙◌, inl, inr, length-append, arith}
 use Rattle.std.proofs.lemmas.Bool.{cases_Bool}
 use Rattle.std.proofs.lemmas.List.{append_cancel_left}
 use Rattle.tile_arguments.specs.Request.{Request}
 use Rattle.tile_script.specs.Line.{answer_to}
-use Rattle.tile_lines.specs.Lines.{lines_of, with_feed, EndsWithALine}
+use Rattle.tile_lines.specs.Lines.{lines_of, with_feed}
 use Rattle.mvt_document.specs.Wire.{bytes_of}
 use Rattle.mvt_history_steps.specs.History.{History, standing_document}
 use Rattle.tile_course.specs.Answering.{Answer, carried_out}
 use Rattle.tile_course.proofs.AnswerLaws.{looks_leave_history}
-use Rattle.tile_course.specs.Replies.{accepted_reply, refused_reply, IsOutOfMemory, NoneIsOutOfMemory}
-use Rattle.tile_course.specs.Run.{Progress, ran, tile_of, settled_by, answered_by, after_line, is_over, after_lines, MayFollow, Walk}
-use Rattle.mvt_history_steps.specs.declared.error.HistoryError.TheVariants.{Stopped}
-use Rattle.tile_course.specs.RunLaws.{WalksNeverOutOfMemoryAreRuns}
+use Rattle.tile_course.specs.Replies.{accepted_reply, refused_reply}
+use Rattle.tile_course.specs.Run.{Progress, ran, tile_of, settled_by, answered_by, after_line, is_over, after_lines}
 use Rattle.run_laws.specs.RunLaws.{RepliesStand, RefusedLinesChangeNothing, SilentLinesChangeNothing, StrictRunsStop, AcceptedRunsAreAlike, RunsAreWalks, LookingChangesNothing}
 use Rattle.tile_lines.specs.declared.parse_error.ParseError.{ParseError}
-use Rattle.tile_lines.specs.declared.parse_error.ParseError.TheVariants as parse
 use Rattle.tile_course.specs.declared.refused.Refused.{Refused}
-use Rattle.tile_course.specs.declared.refused.Refused.TheVariants as refused
-use Rattle.tile_course.proofs.ReplyEnds.{ends-append, refused_ends, accepted_text, accepted_ends, accepted_is_not_refused}
-use Rattle.tile_course.proofs.Overs.{over_stays, goes_on, walk_over, walk_on}
+use Rattle.tile_course.proofs.ReplyEnds.{accepted_text, accepted_is_not_refused}
+use Rattle.tile_course.proofs.Overs.{over_stays, goes_on}
 use Rattle.tile_course.proofs.Prefixes.{after_lines-append, prefix_stands}
-use Rattle.tile_course.proofs.Replying.{Adds, lines_add}
+use Rattle.tile_course.proofs.Replying.{lines_add}
 
 -- ---- replies
 

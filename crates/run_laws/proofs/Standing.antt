@@ -1,9 +1,6 @@
 -- After any script the tile is the one at the start with the standing commands carried out in order.
 use Rattle.std.proofs.Common.{◌≡◌, ℕ, zero, suc, ◌+◌, ◌-◌, ◌==◌, ◌||◌, nat_lt, is_some, if◌then◌else◌, Bool, List, [], ◌∷◌, ◌++◌, length, take, Option, Some, None, Result, Ok, Err, IfOk, refl, sym, ap, subst, ◌∙◌, inl, inr}
-use Rattle.std.specs.List.{flat_map}
 use Rattle.std.proofs.lemmas.Bool.{cases_Bool}
-use Rattle.std.proofs.lemmas.List.{append-nil}
-use Rattle.std.proofs.lemmas.Grind.{flat_map-append}
 use Rattle.mvt_document.specs.Plain.{Document}
 use Rattle.mvt_meaning.specs.Command.{Command}
 use Rattle.mvt_meaning.specs.Meaning.{applied}
@@ -190,5 +187,5 @@ module _ (document : Document) (depth : ℕ) where
 pub standing_commands_make : StandingCommands
 standing_commands_make document options script some =
     let depth = options.depth in
-    let is_made = kept_by_lines (IsMade document depth) (made_asked document depth) options.strict (at_first document depth) (lines_of script) (made_begun document depth) in
+    let is_made = kept_by_lines (IsMade document depth) (λ request history valid. made_asked document depth request history) options.strict (at_first document depth) (lines_of script) (made_begun document depth) in
     is_history document depth (ran document options script).history is_made (sound_ran document options script some)

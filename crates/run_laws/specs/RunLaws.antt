@@ -7,13 +7,14 @@ use Rattle.mvt_meaning.specs.Requests.{HistoryRequest, Edit, Undo, SetMark, GoBa
 use Rattle.tile_arguments.specs.Request.{Request, OnHistory}
 use Rattle.mvt_meaning.specs.Meaning.{applied}
 use Rattle.tile_script.specs.Line.{answer_to}
-use Rattle.tile_lines.specs.Lines.{lines_of, HasNoLineFeed, with_feed, EndsWithALine}
+use Rattle.tile_lines.specs.Lines.{HasNoLineFeed, with_feed, EndsWithALine}
 use Rattle.mvt_history_steps.specs.History.{History, IsSound, commands_in, standing_document, marked, gone_back}
 use Rattle.mvt_history_steps.specs.Requests.{SetsOther, LeavesOpen, asked_all}
+use Rattle.history_laws.specs.Laws.{FitsAFile, HoldsThroughout, IsRequest}
 use Rattle.tile_lines.specs.declared.parse_error.ParseError.{ParseError}
 use Rattle.tile_course.specs.AnswerLaws.{Looks}
 use Rattle.tile_course.specs.Replies.{accepted_reply, refused_reply, NoneIsOutOfMemory}
-use Rattle.tile_course.specs.Run.{Progress, after_line, after_lines, is_over, ran, tile_of, Walk}
+use Rattle.tile_course.specs.Run.{Progress, at_first, after_line, after_lines, is_over, ran, tile_of, Walk}
 use Rattle.tile_course.specs.declared.outcome.Options.{Options}
 use Rattle.tile_course.specs.declared.refused.Refused.{Refused}
 
@@ -102,6 +103,23 @@ requests_of lines = flat_map (λ line. asked_in (answer_to line)) lines
 -- each law of histories holds of such a run
 abbrev pub LinesAreRequests : Type 0
 LinesAreRequests = (p : Progress) (lines : List (List ℕ)) → (after_lines false p lines).history ≡ asked_all (requests_of lines) p.history
+
+-- each line that asks for a request on the history asks for a valid one
+abbrev pub RequestsAreValid : Type 0
+RequestsAreValid = (line : List ℕ) (request : HistoryRequest) → answer_to line ≡ Ok (Some (OnHistory request)) → IsRequest request
+
+-- ---- tiles that fit a file
+
+-- wherever a run on a valid document that a file can hold may get to by some lines, even if growths are refused: all
+-- documents of the history are valid, and a file can hold them
+abbrev pub TilesFitOnTheWay : Type 0
+TilesFitOnTheWay =
+    (document : Document) (depth : ℕ) (strict : Bool) (lines : List (List ℕ)) (q : Progress) → FitsAFile document
+    → Walk strict (at_first document depth) lines q → HoldsThroughout FitsAFile q.history
+
+-- the same after every script, with all memory
+abbrev pub TilesFit : Type 0
+TilesFit = (document : Document) (options : Options) (script : List ℕ) → FitsAFile document → HoldsThroughout FitsAFile (ran document options script).history
 
 -- ---- undo
 

@@ -4,7 +4,7 @@
 
 ghost use Rattle.tile_course.specs.DeviceLaws.{FailedDevicesAreNamed, WornOutRunsNameADevice, DevicesAreNamedForCause};
 ghost use Rattle.tile_course.specs.RunLaws.{PrefixesHaveFirstLines, PrefixesStand, WalksNeverOutOfMemoryAreRuns};
-ghost use Rattle.run_laws.specs.RunLaws.{RepliesStand, RefusedLinesChangeNothing, SilentLinesChangeNothing, StrictRunsStop, AcceptedRunsAreAlike, StandingCommands, LinesAreRequests, UndoInARun, UndoInAScript, CancelInARun, StepUndoneInARun, BackInARun, RunsAreWalks, NoRunIsOutOfMemory, LookingChangesNothing};
+ghost use Rattle.run_laws.specs.RunLaws.{RepliesStand, RefusedLinesChangeNothing, SilentLinesChangeNothing, StrictRunsStop, AcceptedRunsAreAlike, StandingCommands, LinesAreRequests, UndoInARun, UndoInAScript, CancelInARun, StepUndoneInARun, BackInARun, RunsAreWalks, NoRunIsOutOfMemory, LookingChangesNothing, RequestsAreValid, TilesFit, TilesFitOnTheWay};
 
 pub use history_laws::{
     back_to_the_mark, cancel_leaves_no_trace, changes_lead, empty_step_leaves_no_trace, few_steps,
@@ -55,6 +55,21 @@ pub fn standing_commands()
 /// other, make of the one before. So what a law says of histories holds of such a run.
 pub fn lines_are_requests()
     ensures { LinesAreRequests }
+{}
+
+/// Each line that asks for a request on the history asks for a valid one: an id that it sets is
+/// below 2^64.
+pub fn requests_are_valid()
+    ensures { RequestsAreValid }
+{}
+
+/// Where the tile at the start is a document that a file can hold, as every tile that opens is, so
+/// is each tile of the history, each within the open step, and the one that stands: after every
+/// script (`script`), and after any lines even if growths are refused (`on_the_way`). So no tile of
+/// a run is too large to be written.
+pub fn tiles_fit()
+    ensures script { TilesFit }
+    ensures on_the_way { TilesFitOnTheWay }
 {}
 
 /// Where no step is open and the run is not over, a line with an accepted command and a line with
