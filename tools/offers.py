@@ -17,11 +17,11 @@ PROGRAM = "man/tileshell.1"
 SCRIPT = "man/tileshell-script.5"
 WORDS = "completions/requests.txt"
 
-# How each shell's completion writes an option.
+# How each shell's completion writes an option, one that takes a value, and one whose value is a file.
 COMPLETIONS = {
-    "completions/tileshell.bash": r"(?<=[ (])--([a-z]+)(?=[ ;])",
-    "completions/tileshell.zsh": r"--([a-z]+)",
-    "completions/tileshell.fish": r"-l ([a-z]+)",
+    "completions/tileshell.bash": (r"(?<=[ (])--([a-z]+)(?=[ ;])", r"\$before [!=]= --([a-z]+)", r"\$before != --([a-z]+)"),
+    "completions/tileshell.zsh": (r"--([a-z]+)", r"--([a-z]+)=", r"--([a-z]+)=\[.*\]:.*:_files'"),
+    "completions/tileshell.fish": (r"-l ([a-z]+)", r"-l ([a-z]+) -[rx] ", r"-l ([a-z]+) -r -F "),
 }
 
 
@@ -38,6 +38,11 @@ def version():
 def options():
     """The long options, with the two that are always there."""
     return {*re.findall(r'\.long\("([\w-]+)"\)', read(OPTIONS)), "help", "version"}
+
+
+def options_with(name):
+    """The long options that take a value whose name in the help is like this."""
+    return set(re.findall(rf'\.long\("([\w-]+)"\)\s*\.value_name\("{name}"\)', read(OPTIONS)))
 
 
 def requests():
@@ -111,8 +116,10 @@ def refusal_faults():
 def option_faults():
     found = set(re.findall(r"--([a-z]+)", section(PROGRAM, "OPTIONS")))
     yield from differences(PROGRAM, "option", options(), found)
-    for place, pattern in COMPLETIONS.items():
-        yield from differences(place, "option", options(), set(re.findall(pattern, read(place))))
+    for place, patterns in COMPLETIONS.items():
+        wanted = {"option": options(), "option with a value": options_with(r"\w+"), "option with a file": options_with("FILE")}
+        for (what, there), pattern in zip(wanted.items(), patterns):
+            yield from differences(place, what, there, set(re.findall(pattern, read(place))))
     statuses = [{row[0] for row in table(place, "Status |")} for place in (FORMATS, README)]
     yield from differences(README, "status", *statuses)
     yield from differences(PROGRAM, "status", statuses[0], heads_in(PROGRAM, "EXIT STATUS"))
