@@ -88,7 +88,7 @@ compare: all
 	compare/gdal.py --script compare/edits.script build/tileshell $(TILES)
 	compare/gdal.py --shift -30 3 build/tileshell $(TILES)
 
-## make install      the program, its manual pages, completions and documents under PREFIX; `make -f install.mk install` builds nothing
+## make install      the program and edit-tiles, manual pages, completions and documents under PREFIX; `make -f install.mk install` builds nothing
 install: all
 	$(MAKE) -f install.mk install PREFIX=$(PREFIX)
 
@@ -100,7 +100,8 @@ uninstall:
 deb: all
 	rm -rf build/deb
 	mkdir -p build/deb/tileshell
-	cp -r --parents build/tileshell install.mk debian man completions README.md CHANGELOG.md docs/GUIDE.md docs/FINDING.md docs/FORMATS.md docs/PROVED.md docs/EXAMPLE.md docs/LIBRARY.md build/deb/tileshell
+	cp -r debian build/deb/tileshell
+	cp --parents install.mk $$($(MAKE) --silent --no-print-directory -f install.mk sources) build/deb/tileshell
 	cd build/deb/tileshell && dpkg-buildpackage --build=binary --no-sign
 	lintian --fail-on error,warning build/deb/*.changes
 

@@ -15,6 +15,8 @@ FORMATS = "docs/FORMATS.md"
 README = "README.md"
 PROGRAM = "man/tileshell.1"
 SCRIPT = "man/tileshell-script.5"
+TOOL = "tools/edit-tiles"
+OF_TOOL = "man/edit-tiles.1"
 WORDS = "completions/requests.txt"
 
 # How each shell's completion writes an option, one that takes a value, and one whose value is a file.
@@ -38,6 +40,11 @@ def version():
 def options():
     """The long options, with the two that are always there."""
     return {*re.findall(r'\.long\("([\w-]+)"\)', read(OPTIONS)), "help", "version"}
+
+
+def options_of_tool():
+    """The long options of edit-tiles, with the one that is always there."""
+    return {*re.findall(r'\.add_argument\("--([\w-]+)"', read(TOOL)), "help"}
 
 
 def options_with(name):
@@ -114,8 +121,8 @@ def refusal_faults():
 
 
 def option_faults():
-    found = set(re.findall(r"--([a-z]+)", section(PROGRAM, "OPTIONS")))
-    yield from differences(PROGRAM, "option", options(), found)
+    for place, wanted in {PROGRAM: options(), OF_TOOL: options_of_tool()}.items():
+        yield from differences(place, "option", wanted, set(re.findall(r"--([a-z]+)", section(place, "OPTIONS"))))
     for place, patterns in COMPLETIONS.items():
         wanted = {"option": options(), "option with a value": options_with(r"\w+"), "option with a file": options_with("FILE")}
         for (what, there), pattern in zip(wanted.items(), patterns):
@@ -131,6 +138,7 @@ VERSIONS = {
     FORMATS: r"the version is `tileshell (.*?)`",
     PROGRAM: r'^\.TH \S+ \S+ \S+ "tileshell (.*?)"',
     SCRIPT: r'^\.TH \S+ \S+ \S+ "tileshell (.*?)"',
+    OF_TOOL: r'^\.TH \S+ \S+ \S+ "tileshell (.*?)"',
     "CHANGELOG.md": r"^## (\S+), ",
     "debian/changelog": r"^tileshell \((.*?)\)",
 }
