@@ -8,9 +8,9 @@ ghost use Rattle.mvt_change.specs.Joining.{joined};
 use crate::change::Change;
 use std::alloc::{AllocError, Global};
 
-/// One change with the steps of the last change, then of the one before it, and so on; the list is
-/// left empty. The steps move, and memory is asked for once, before the first of them moves: the
-/// last change grows by the steps of all others. An `Err` changes nothing but room.
+/// Makes one change of all of them, the last one first, and leaves none in the list. No step is
+/// copied. Memory is asked for at most once, while all is still in its place: room in the last
+/// change for what the others have. An `Err` changes nothing but room.
 pub fn join(alloc: Global, changes: &mut Vec<Change>) -> Result<Change, AllocError>
     ensures ok { IfOk result (λ change. change_of change ≡ joined (reverse (map change_of changes.old.items))) }
     ensures emptied { OnOk result (changes.new.items ≡ []) }

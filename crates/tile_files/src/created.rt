@@ -1,4 +1,4 @@
-//! A file that is made at its first write.
+//! The file of the edited tile, which nothing touches before there is something to write.
 
 ghost use Rattle.std.specs.Prelude.{◌≡◌, IsOk, IsSome, OnErr, OnOk};
 
@@ -6,7 +6,7 @@ use std::fs;
 use std::io::{self, ErrorKind, Write};
 use std::rt::Files;
 
-/// A file that is created, or emptied, at the first write or flush.
+/// A file by its path. The first call on it opens it, with no bytes in it.
 #[derive(Drop)]
 pub(crate) struct Created<'a, R: Files> {
     rt: &'a R,
@@ -23,7 +23,7 @@ impl<'a, R: Files> Created<'a, R> {
         }
     }
 
-    /// Creates or empties the file, the first time that it succeeds.
+    /// Opens the file with no bytes in it, unless an earlier call did.
     fn create(&mut self) -> io::Result<()>
         ensures made { OnOk result (IsSome self.new.file) }
         ensures once { IsSome self.old.file → (self.new ≡ self.old) × IsOk result }

@@ -49,7 +49,8 @@ impl LineCutter {
         })
     }
 
-    /// Forgets a complete line. Then a line feed completes the line held, and any other byte joins it.
+    /// Takes the next byte of the script. It belongs to a new line if the one before is complete. A
+    /// line feed completes its line, and every other byte is added to it.
     #[tactic(auto, unfolding(crate::specs::Cutting::pushed))]
     pub fn push(&mut self, byte: u8)
         ensures { self.new ≡ pushed self.old byte }
