@@ -8,11 +8,13 @@ use std::alloc::{AllocError, AllocFailed};
 use thiserror::Error;
 
 /// Why a session was not started. The document is handed back.
-#[derive(Debug, Drop)]
+#[derive(Debug, Drop, Error)]
 pub enum StartError {
     /// No file can hold it.
+    #[error("the tile is too large for a file")]
     TooLarge(Document),
     /// Memory was refused for the lists of changes.
+    #[error("out of memory")]
     NoMemory(Document),
 }
 
@@ -33,7 +35,7 @@ pub enum HistoryError {
     TooManyMarks,
     /// Memory was refused on the way. `taken` undos or redos of a `back` were made, or the last
     /// `taken` commands of the open step were taken back by a `cancel`; that stands.
-    #[error("out of memory after {taken} steps")]
+    #[error("out of memory on the way; taken so far: {taken}")]
     Stopped { taken: usize },
     /// A step is open, and this request has to wait for its end.
     #[error("a step is open")]
