@@ -30,7 +30,7 @@ fn main(rt: HostRuntime) -> io::Result<ExitCode> {
     } = edit(rt.alloc(), tile.as_slice(), script.as_slice(), options);
     io::writer(&rt).write_all(replies.as_slice())?;
     let Some(tile) = tile else {
-        eprintln!(rt; "edit_example: no tile was written: {outcome:?}")?;
+        eprintln!(rt; "edit_example: no tile was written: {outcome}")?;
         return Ok(ExitCode::FAILURE);
     };
     fs::write(&rt, out.as_str(), tile)?;

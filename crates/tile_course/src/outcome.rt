@@ -5,6 +5,7 @@ ghost use Rattle.tile_course.specs.declared.outcome.ScriptStop.TheVariants as sc
 ghost use Rattle.tile_course.specs.Outcomes.{fault_of, script_stop_of, edited_outcome, opening_outcome, script_outcome, writing_outcome};
 
 use std::alloc::AllocError;
+use std::fmt;
 use thiserror::Error;
 use tile_device::ReadFault;
 
@@ -68,6 +69,19 @@ impl Outcome {
             Outcome::SomeRefused
         } else {
             Outcome::Done
+        }
+    }
+}
+
+impl fmt::Display for Outcome {
+    fn fmt<W: fmt::Write>(&self, f: &mut fmt::Formatter<W>) -> fmt::Result {
+        match self {
+            Outcome::Done => write!(f, "every line was accepted"),
+            Outcome::SomeRefused => write!(f, "a line was refused"),
+            Outcome::StrictStop => write!(f, "the run stopped at a refused line"),
+            Outcome::TileRefused(fault) => write!(f, "tile refused: {fault}"),
+            Outcome::Device(name) => write!(f, "device fault: {name}"),
+            Outcome::NoMemory => write!(f, "no memory"),
         }
     }
 }

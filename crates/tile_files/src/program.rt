@@ -118,20 +118,22 @@ fn outcome_of(
 fn report<R: Eprint>(rt: &R, outcome: Outcome) -> u8
     ensures { result ≡ status_of outcome }
 {
+    let status = status(outcome);
+    if status > 1 {
+        let _ = eprintln!(rt; "tileshell: {outcome}");
+    }
+    status
+}
+
+/// The status of the outcome.
+fn status(outcome: Outcome) -> u8
+    ensures { result ≡ status_of outcome }
+{
     match outcome {
         Outcome::Done => 0,
         Outcome::SomeRefused | Outcome::StrictStop => 1,
-        Outcome::TileRefused(fault) => {
-            let _ = eprintln!(rt; "tileshell: tile refused: {fault}");
-            3
-        }
-        Outcome::Device(device) => {
-            let _ = eprintln!(rt; "tileshell: device fault: {device}");
-            4
-        }
-        Outcome::NoMemory => {
-            let _ = eprintln!(rt; "tileshell: no memory");
-            5
-        }
+        Outcome::TileRefused(_) => 3,
+        Outcome::Device(_) => 4,
+        Outcome::NoMemory => 5,
     }
 }
