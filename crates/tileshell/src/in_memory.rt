@@ -13,9 +13,9 @@ use tile_run::{DeviceName, Options, Outcome, run_and_free};
 pub struct Edited {
     /// How the run ended. It is also `NoMemory` where the replies or the tile could not grow here.
     pub outcome: Outcome,
-    /// The replies to the lines that were carried out.
+    /// The replies to the lines that ask for something, refused ones too.
     pub replies: Vec<u8>,
-    /// The edited tile, where the run came to the end of the script.
+    /// The edited tile: exactly where the outcome is `Done` or `SomeRefused`.
     pub tile: Option<Vec<u8>>,
 }
 
