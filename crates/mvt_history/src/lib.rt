@@ -24,9 +24,15 @@
 //!   takes; what it weighs is the bytes of the items that it holds, as they are written.
 //! - Conditions: the document is one (`IsDocument`), as everything that is read is, and the depth
 //!   is from 1 to 10,000 (`Session::start`).
+//!
+//! It re-exports what its calls take and return, and what a command is made of.
 #![tactic(auto)]
 
 mod session;
 
+pub use mvt_document::{Document, Items};
+pub use mvt_edit::{Command, FeatureChoice, LayerChoice, LayersChoice, Refusal};
+pub use mvt_geometry::{Geometry, Kind, Part, Point};
 pub use mvt_history_steps::{HistoryError, MAX_DEPTH, MAX_MARKS, StartError};
+pub use mvt_value::NewValue;
 pub use session::Session;
