@@ -8,6 +8,12 @@ pub const LAYERS: &[u8] = b"\
 /// A layer of one feature, whose kind is between two ids.
 pub const IDS_APART: &[u8] = b"\x1a\x08\x12\x06\x08\x05\x18\x01\x08\x06";
 
+/// The layer of `T0` with a second key "m". The feature has the value for both, and its last tag is a
+/// field of its own, which is not packed.
+pub const TAGS_APART: &[u8] = b"\
+    \x1a\x24\x0a\x01a\x12\x10\x12\x03\x00\x00\x01\x08\x01\x10\x00\x18\x01\x22\x03\x09\x32\x22\
+    \x1a\x01k\x1a\x01m\x22\x02\x20\x05\x28\x80\x20\x78\x02";
+
 pub const RENAME_AND_UNDO: &str = "\
 rename-layer \"a\" \"roads\"
 undo

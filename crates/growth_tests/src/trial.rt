@@ -1,10 +1,10 @@
 //! The trials: for each command one, and for `set` a second with a new key, one for a layer that comes
-//! back to a full list, one for ids that go in two steps, and two for the changes of several commands
-//! as one.
+//! back to a full list, one for ids that go in two steps, three on tags in two fields, and two for the
+//! changes of several commands as one.
 
 use crate::fault::Fault;
 use crate::refused::{Refused, flip, flip_twice, prepare};
-use crate::scripts::{IDS_APART, UNUSED};
+use crate::scripts::{IDS_APART, TAGS_APART, UNUSED};
 use mvt_edit::Command;
 use std::alloc::{AllocError, Global};
 use std::fmt;
@@ -40,10 +40,14 @@ pub enum Trial {
     Set,
     /// A value with a new key.
     SetNew,
+    /// A value in place of another, where tags are in two fields.
+    SetApart,
     Unset,
+    UnsetApart,
     RenameKey,
     Exclude,
     ExcludeAll,
+    ExcludeAllApart,
     CompactKeys,
     CompactValues,
     Compact,
@@ -53,7 +57,7 @@ pub enum Trial {
     Series,
 }
 
-const TRIALS: [Trial; 24] = [
+const TRIALS: [Trial; 27] = [
     Trial::RenameLayer,
     Trial::MoveLayer,
     Trial::DropLayer,
@@ -69,10 +73,13 @@ const TRIALS: [Trial; 24] = [
     Trial::SetGeometry,
     Trial::Set,
     Trial::SetNew,
+    Trial::SetApart,
     Trial::Unset,
+    Trial::UnsetApart,
     Trial::RenameKey,
     Trial::Exclude,
     Trial::ExcludeAll,
+    Trial::ExcludeAllApart,
     Trial::CompactKeys,
     Trial::CompactValues,
     Trial::Compact,
@@ -113,10 +120,13 @@ impl Trial {
             Trial::SetGeometry => "set-geometry",
             Trial::Set => "set",
             Trial::SetNew => "set-new",
+            Trial::SetApart => "set-apart",
             Trial::Unset => "unset",
+            Trial::UnsetApart => "unset-apart",
             Trial::RenameKey => "rename-key",
             Trial::Exclude => "exclude",
             Trial::ExcludeAll => "exclude-all",
+            Trial::ExcludeAllApart => "exclude-all-apart",
             Trial::CompactKeys => "compact-keys",
             Trial::CompactValues => "compact-values",
             Trial::Compact => "compact",
@@ -157,6 +167,9 @@ impl Trial {
             | Trial::ExcludeAll => four_items(alloc),
             Trial::MoveFeature | Trial::DropFeature => joined(alloc, &[TWO_IDS]),
             Trial::ClearIds => joined(alloc, &[IDS_APART]),
+            Trial::SetApart | Trial::UnsetApart | Trial::ExcludeAllApart => {
+                joined(alloc, &[TAGS_APART])
+            }
             Trial::CompactKeys | Trial::CompactValues | Trial::Compact => joined(alloc, &[UNUSED]),
             _ => joined(alloc, &[T0.as_slice()]),
         }
@@ -177,11 +190,12 @@ impl Trial {
             Trial::Shift => shift(-30, 3),
             Trial::SetGeometry => another_polygon(alloc)?,
             Trial::Set => set(alloc, b"k", 6)?,
-            Trial::SetNew => set(alloc, b"m", 6)?,
+            Trial::SetNew | Trial::SetApart => set(alloc, b"m", 6)?,
             Trial::Unset => unset(alloc, b"k")?,
+            Trial::UnsetApart => unset(alloc, b"m")?,
             Trial::RenameKey => rename_key(alloc, b"k", b"kind")?,
             Trial::Exclude => exclude(alloc, b"k")?,
-            Trial::ExcludeAll => exclude_all(),
+            Trial::ExcludeAll | Trial::ExcludeAllApart => exclude_all(),
             Trial::CompactKeys => compact_keys(),
             Trial::CompactValues => compact_values(),
             Trial::Compact => compact(),
