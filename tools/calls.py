@@ -13,6 +13,9 @@ MANY = re.compile(r"\b\d{4,}\*")
 # What the program says of a row that cannot be tried, as its tile or what it is given cannot be read.
 UNTRIED = ["the tile does not open, or lacks what is looked at", "the call cannot be given this"]
 
+# How an answer begins if the call was refused memory, left all as it was, and was made again.
+MADE_AGAIN = "NoMemory, then "
+
 # What becomes of a row: it is answered as ever, or is out of memory, or is not reached.
 ANSWERED, OUT_OF_MEMORY, NOT_COME_TO = "answered", "out of memory", "not come to"
 
@@ -63,5 +66,13 @@ def judged(status, printed, complaint):
         return None
     if lines[-1] in UNTRIED:
         return NOT_COME_TO
-    answers = [line for line in lines if line.startswith("answers: ")]
-    return OUT_OF_MEMORY if lines[-1] == "out of memory" or answers and "NoMemory" in answers[0] else None
+    says = dict(line.split(": ", 1) for line in lines if ": " in line)
+    is_so = lines[-1] == "out of memory" or says_so(says.get("answers", ""), says.get("should answer", ""))
+    return OUT_OF_MEMORY if is_so else None
+
+
+def says_so(answer, wanted):
+    """Whether the answer is that there was no memory, and of a call that was made again what it should be after that."""
+    if answer.startswith(MADE_AGAIN):
+        return answer.removeprefix(MADE_AGAIN) == wanted
+    return "NoMemory" in answer

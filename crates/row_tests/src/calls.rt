@@ -11,6 +11,7 @@ mod limits;
 mod numbers;
 mod row;
 mod scripts;
+mod sessions;
 mod texts;
 mod values;
 mod views;

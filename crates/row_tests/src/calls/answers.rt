@@ -3,7 +3,8 @@
 use crate::calls::broken::{Answer, Broken};
 use crate::calls::given::Given;
 use crate::calls::{
-    arguments, changes, errors, geometries, limits, numbers, scripts, texts, values, views, wire,
+    arguments, changes, errors, geometries, limits, numbers, scripts, sessions, texts, values,
+    views, wire,
 };
 use std::alloc::Global;
 
@@ -19,6 +20,7 @@ pub fn answer(alloc: Global, call: &str, given: Given<'_>) -> Answer {
         "arguments" => arguments::answer(alloc, name, given),
         "scripts" => scripts::answer(alloc, name, given),
         "texts" => texts::answer(alloc, name, given),
+        "sessions" => sessions::answer(alloc, name, given),
         "changes" => changes::answer(alloc, name, given),
         "limits" => limits::answer(alloc, name, given),
         "errors" => errors::answer(alloc, name, given),
