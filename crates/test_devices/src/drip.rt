@@ -51,16 +51,21 @@ impl Calls {
     }
 }
 
-/// Gives one byte a call.
+/// Gives one byte a call, and notes how many a call asked for at most.
 #[derive(Drop)]
 pub struct DripSource<'a> {
     pub rest: &'a [u8],
     pub calls: Calls,
+    pub most_asked: usize,
 }
 
 impl<'a> DripSource<'a> {
     pub fn new(rest: &'a [u8], calls: Calls) -> Self {
-        DripSource { rest, calls }
+        DripSource {
+            rest,
+            calls,
+            most_asked: 0,
+        }
     }
 }
 
@@ -74,6 +79,7 @@ impl Source for DripSource<'_> {
     ghost failures = { λ d. d.calls.counts.failures };
 
     fn read(&mut self, buffer: &mut [u8]) -> Result<usize, Trouble> {
+        self.most_asked = self.most_asked.max(buffer.len());
         if self.calls.is_troubled() {
             let trouble = self.calls.trouble;
             self.calls.counts.count(trouble);

@@ -1,6 +1,6 @@
 //! The order in which a run reads, replies and passes replies on.
 
-use crate::memory::{options, outcome_of};
+use crate::memory::{Drips, options, outcome_of};
 use std::alloc::{AllocError, Global};
 use std::cell::RefCell;
 use std::io::{self, Read, Write};
@@ -133,4 +133,12 @@ fn nothing_is_read_after_a_strict_stop(rt: HostRuntime) {
         assert_eq!(rt; outcome, Outcome::StrictStop);
         assert_eq!(rt; log.as_slice(), steps);
     }
+}
+
+#[test]
+fn the_script_is_read_in_small_pieces(rt: HostRuntime) {
+    let mut drips = Drips::new(rt.alloc(), &T0, RENAME);
+    assert_eq!(rt; drips.run(rt.alloc(), options(false)), Outcome::Done);
+    assert_eq!(rt; drips.script.most_asked, 4096);
+    assert_eq!(rt; drips.tile.most_asked, 16_384);
 }
