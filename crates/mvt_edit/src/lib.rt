@@ -8,9 +8,13 @@
 //!   than the command takes out, and its steps are at most one plus half as many as these bytes
 //!   together; seven commands have exactly one (`is_one_step`). The document is not touched:
 //!   `prepare`.
+//!
+//! The crate passes on what a change is carried out with, and several are made one: `Change`, `flip`
+//! and `join` of `mvt_change`.
 #![tactic(auto)]
 
 mod commands;
 
 pub use commands::prepare;
+pub use mvt_change::{Change, flip, join};
 pub use mvt_meaning::{Command, FeatureChoice, LayerChoice, LayersChoice, Refusal};

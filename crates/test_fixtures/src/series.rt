@@ -4,8 +4,7 @@ ghost use Rattle.std.specs.Prelude.{◌≡◌, ◌++◌, IfOk};
 ghost use Rattle.mvt_change.specs.ChangeStands.{change_of};
 
 use crate::edits::Edit;
-use mvt_change::{Change, flip};
-use mvt_edit::{Command, Refusal, prepare};
+use mvt_edit::{Change, Command, Refusal, flip, prepare};
 use mvt_wire::{Document, ReadError, read_document};
 use std::alloc::{AllocError, Global};
 use std::marker::Model;
