@@ -6,3 +6,6 @@ pub mod StepLines
 pub mod NoneOutOfMemory
 pub mod LineLaws
 pub mod Fitting
+pub mod ReadLines
+pub mod Faults
+pub mod WholeReplies

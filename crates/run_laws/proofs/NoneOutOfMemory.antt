@@ -121,7 +121,7 @@ after_uncut (refused.History history.GroupOpen) = tt
 after_uncut (refused.History history.NoGroup) = tt
 after_uncut (refused.History history.NoMemory) = tt
 
-refused_uncut : (line : ℕ) (reason : Refused) → HasNoLineFeed (refused_text line reason)
+pub refused_uncut : (line : ℕ) (reason : Refused) → HasNoLineFeed (refused_text line reason)
 refused_uncut line reason =
     let number = decimal (refusal_number reason) in
     let first = uncut-append (codes "line ") (decimal line) (uncut_by_test (codes "line ") refl) (decimal_uncut line) in

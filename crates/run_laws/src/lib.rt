@@ -4,6 +4,7 @@
 
 ghost use Rattle.tile_course.specs.DeviceLaws.{FailedDevicesAreNamed, WornOutRunsNameADevice, DevicesAreNamedForCause};
 ghost use Rattle.tile_course.specs.RunLaws.{PrefixesHaveFirstLines, PrefixesStand, WalksNeverOutOfMemoryAreRuns};
+ghost use Rattle.run_laws.specs.FaultLaws.{ScriptsAreReadByLines, OutFailsLast, ScriptFailsBetweenLines, StrictRunsReplyAlike, RepliesAreCutShort, WholeRepliesStand};
 ghost use Rattle.run_laws.specs.RunLaws.{RepliesStand, RefusedLinesChangeNothing, SilentLinesChangeNothing, StrictRunsStop, AcceptedRunsAreAlike, StandingCommands, LinesAreRequests, UndoInARun, UndoInAScript, CancelInARun, StepUndoneInARun, BackInARun, RunsAreWalks, NoRunIsOutOfMemory, LookingChangesNothing, RequestsAreValid, TilesFit, TilesFitOnTheWay};
 
 pub use history_laws::{
@@ -120,4 +121,19 @@ pub fn failed_devices_are_named()
 /// tells. The counts began at no more than 2^63.
 pub fn devices_are_named_for_cause()
     ensures { DevicesAreNamedForCause }
+{}
+
+/// Where a device ends a run, or a strict one stops, and no reply is 60 or 54: what was replied is
+/// what is replied to the script as far as it was read (`read`). That is all of it if OUT fails,
+/// which has a prefix of the tile then (`out`), and its whole lines if the script fails or is too
+/// long (`script`); a strict run is over there (`strict`). If the replies fail, a prefix of them was
+/// written, but that a last line that was cut short may be a beginning of 60 or 54 (`replies`); the
+/// whole lines that were written are such a prefix (`whole`).
+pub fn faults_cut_runs_short()
+    ensures read { ScriptsAreReadByLines }
+    ensures out { OutFailsLast }
+    ensures script { ScriptFailsBetweenLines }
+    ensures strict { StrictRunsReplyAlike }
+    ensures replies { RepliesAreCutShort }
+    ensures whole { WholeRepliesStand }
 {}
