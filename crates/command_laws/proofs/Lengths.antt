@@ -65,7 +65,7 @@ module _ {A : Type 0} (bytes : A → List ℕ) where
   without_no_longer : (passes : A → Bool) (ordinal : ℕ) (xs : List A) → weigh bytes (without passes ordinal xs) ≤ weigh bytes xs
   without_no_longer passes ordinal xs = omega (arith, from_nth_weighs passes (λ rest. drop 1 rest) 0 rest_no_longer ordinal xs)
 
-  filter_no_longer : (passes : A → Bool) (xs : List A) → weigh bytes (filter passes xs) ≤ weigh bytes xs
+  pub filter_no_longer : (passes : A → Bool) (xs : List A) → weigh bytes (filter passes xs) ≤ weigh bytes xs
   filter_no_longer passes [] = omega arith
   filter_no_longer passes (x ∷ xs) =
       let rest = filter_no_longer passes xs in

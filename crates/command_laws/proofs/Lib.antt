@@ -16,3 +16,8 @@ pub mod Elements
 pub mod EntryOrdinals
 pub mod Documents
 mod NeverOutOfMemory
+mod ListWeights
+mod PartWeights
+mod LayerWeights
+mod TakenWithin
+mod PutWithin

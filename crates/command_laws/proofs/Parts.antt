@@ -66,7 +66,7 @@ feature_apart (PlainInLayer field) other e = absurd cc
 abbrev pub with_fields : (List Field → List Field) → Feature → Feature
 with_fields change feature = record { tag = feature.tag; width = feature.width; fields = change feature.fields }
 
-feature_given : (change : List Field → List Field) (item : LayerItem) (feature : Feature) → feature_in item ≡ Some feature → feature_in (in_feature change item) ≡ Some (with_fields change feature)
+pub feature_given : (change : List Field → List Field) (item : LayerItem) (feature : Feature) → feature_in item ≡ Some feature → feature_in (in_feature change item) ≡ Some (with_fields change feature)
 feature_given change (OfFeature feature) other e = let same : feature ≡ other = cc in ap (λ (f : Feature). Some (with_fields change f)) same
 feature_given change (PlainInLayer field) other e = absurd cc
 
@@ -90,7 +90,7 @@ changes_feature choice way change layer ordinal selects changed =
 
 -- ---- the fields of a feature
 
-fields_there : (items : List LayerItem) (index : ℕ) (feature : Feature) → slice_get (features_in items) index ≡ Some feature → option_map_or (λ item. option_map_or (λ (fields : List Field). fields) (fields_in item) []) (slice_get (filter is_feature items) index) [] ≡ feature.fields
+pub fields_there : (items : List LayerItem) (index : ℕ) (feature : Feature) → slice_get (features_in items) index ≡ Some feature → option_map_or (λ item. option_map_or (λ (fields : List Field). fields) (fields_in item) []) (slice_get (filter is_feature items) index) [] ≡ feature.fields
 fields_there [] index feature is = absurd cc
 fields_there (OfFeature first ∷ items) zero feature is = let same : first ≡ feature = cc in ap (λ (f : Feature). f.fields) same
 fields_there (OfFeature first ∷ items) (suc index) feature is = fields_there items index feature is

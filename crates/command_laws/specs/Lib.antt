@@ -5,3 +5,4 @@ pub mod Laws
 pub mod SizeLaws
 pub mod DocumentLaws
 pub mod MemoryLaws
+pub mod WeightLaws

@@ -7,6 +7,7 @@ ghost use Rattle.command_laws.specs.LayerLaws.{DropLayerDrops, KeepLayersKeeps, 
 ghost use Rattle.command_laws.specs.Laws.{NameMeansTheOne, NameMeansNone};
 ghost use Rattle.command_laws.specs.MemoryLaws.{NoCommandIsOutOfMemory};
 ghost use Rattle.command_laws.specs.SizeLaws.{CommandFits, NeverLonger};
+ghost use Rattle.command_laws.specs.WeightLaws.{PutWithin, TakenWithin};
 
 /// An accepted rename names the selected layer, and no other layer has the name then; the other
 /// layers, the other fields of the tile, and all of that layer but its names are as they were. By
@@ -88,6 +89,15 @@ pub fn command_fits()
 /// insertion, a new id, a value for a key, a shift or another geometry.
 pub fn never_longer()
     ensures { NeverLonger }
+{}
+
+/// The items that a command takes out or replaces have, all together, no more bytes than the tile
+/// that it meets, whatever the tile and the command, which may be refused (`taken`). Those that an
+/// accepted command puts in have no more bytes than the tile that it makes (`put`).
+#[tactic(auto, using(crate::proofs::TakenWithin::taken_within, crate::proofs::PutWithin::put_within))]
+pub fn weights_within()
+    ensures taken { TakenWithin }
+    ensures put { PutWithin }
 {}
 
 /// With all memory no command is refused as out of memory.
