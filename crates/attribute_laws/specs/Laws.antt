@@ -30,7 +30,8 @@ pub record RenamesKey (former present : List ℕ) (old new : Layer) : Type 0 whe
   pub features_stay : features new ≡ features old
   pub others : filter (λ item. not (is_key present item)) new.items ≡ filter (λ item. not (is_key former item)) old.items
 
--- an accepted rename of a key renames it in the selected layer, and nothing else differs
+-- an accepted rename of a key renames it in the selected layer, and nothing but the fields of that key differs; where
+-- these stand among the other items, and how their numbers are spelled, is left open
 abbrev pub RenameKeyRenames : Type 0
 RenameKeyRenames = (choice : LayerChoice) (former present : List ℕ) (old new : Document) → applied (RenameKey choice former present) old ≡ Ok new → ChangesLayer choice (RenamesKey former present) old new
 
@@ -56,7 +57,8 @@ pub record LosesAttribute (key : List ℕ) (former present : Layer) (old new : F
   pub has : attributes present new ≡ Some (of_other_keys key found)
   pub others : without_tags new.fields ≡ without_tags old.fields
 
--- where unsetting a key is accepted, the selected feature loses the attributes of that key, and nothing else differs
+-- where unsetting a key is accepted, the selected feature loses the attributes of that key, and nothing outside its
+-- tags fields differs; in which of these the tags that stay are, and how they are spelled, is left open
 abbrev pub UnsetUnsets : Type 0
 UnsetUnsets = (choice : LayerChoice) (feature : FeatureChoice) (key : List ℕ) (old new : Document) → applied (UnsetAttribute choice feature key) old ≡ Ok new → ChangesLayer choice (λ former present. ChangesFeature feature (LosesAttribute key former present) former present) old new
 
@@ -149,7 +151,7 @@ pub record ExcludesKey (key : List ℕ) (old new : Layer) : Type 0 where
   pub positions : feature_positions new.items ≡ feature_positions old.items
 
 -- where excluding a key is accepted, each feature of each selected layer loses the attributes of that key, and nothing
--- else differs
+-- outside their tags fields differs; in which of these the tags that stay are, and how they are spelled, is left open
 abbrev pub ExcludeExcludes : Type 0
 ExcludeExcludes = (choice : LayersChoice) (key : List ℕ) (old new : Document) → applied (Exclude choice key) old ≡ Ok new → ChangesLayers choice (ExcludesKey key) old new
 

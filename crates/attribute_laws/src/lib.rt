@@ -21,7 +21,8 @@ pub fn set_then_unset()
 
 /// Where unsetting a key is accepted, the selected feature has its attributes of other keys, in
 /// their order, and all its fields other than tags. The keys, the values, the other features and
-/// the other layers are as they were.
+/// the other layers are as they were. By this law the tags that stay might be in other tags fields
+/// or be spelled otherwise; `applied` says how they are.
 pub fn unset_unsets()
     ensures { UnsetUnsets }
 {}
@@ -33,14 +34,16 @@ pub fn unset_again_changes_nothing()
 
 /// An accepted rename of a key renames it in the selected layer wherever it is a key, and so in the
 /// attributes of every feature of that layer. The values, the features and all other fields of the
-/// layer are as they were, and so are the other layers.
+/// layer are as they were, and so are the other layers. By this law the fields of the key might
+/// stand elsewhere among the other items or be spelled otherwise; `applied` says how they are.
 pub fn rename_key_renames()
     ensures { RenameKeyRenames }
 {}
 
 /// Where excluding a key is accepted, each feature of the selected layers has its attributes of
 /// other keys, in their order, and all its fields other than tags. The keys, the values and the
-/// other layers are as they were.
+/// other layers are as they were. By this law the tags that stay might be in other tags fields or
+/// be spelled otherwise; `applied` says how they are.
 pub fn exclude_excludes()
     ensures { ExcludeExcludes }
 {}

@@ -72,13 +72,15 @@ DropFeatureDrops = (choice : LayerChoice) (feature : FeatureChoice) (old new : D
 abbrev pub ids : Feature → List ℕ
 ids feature = filter_map (value_in 1) feature.fields
 
--- the feature has this id in place of its last one, and all its fields other than ids, in their order (tiles 4.2)
+-- the feature has this id in place of its last one, after its other ids in their order, and all its fields other than
+-- ids, in their order (tiles 4.2)
 pub record SetsId (id : ℕ) (old new : Feature) : Type 0 where
   pub has : id_of new ≡ Some id
   pub last : ids new ≡ all_but_last (ids old) ++ id ∷ []
   pub others : without_id new.fields ≡ without_id old.fields
 
--- an accepted id becomes that of the selected feature, and nothing but its ids differs
+-- an accepted id becomes that of the selected feature, and nothing but its ids differs; where these stand among its
+-- fields, and how they are spelled, is left open
 abbrev pub SetIdSets : Type 0
 SetIdSets = (choice : LayerChoice) (feature : FeatureChoice) (id : ℕ) (old new : Document) → applied (SetId choice feature id) old ≡ Ok new → ChangesLayer choice (ChangesFeature feature (SetsId id)) old new
 

@@ -52,8 +52,10 @@ pub fn drop_feature_drops()
     ensures { DropFeatureDrops }
 {}
 
-/// An accepted id becomes that of the selected feature, in place of its last one; no other field of
-/// it, and no other feature, layer or field of the tile differs.
+/// An accepted id becomes that of the selected feature, in place of its last one; all of that
+/// feature but its ids, and the other features, layers and fields of the tile are as they were. By
+/// this law its ids might stand elsewhere among its fields or be spelled otherwise; `applied` says
+/// how they are.
 pub fn set_id_sets()
     ensures { SetIdSets }
 {}

@@ -98,15 +98,18 @@ pub record LosesBoth (old new : Layer) : Type 0 where
   pub others : filter (λ item. not (is_entry_in key_field item || is_entry_in value_field item)) (outline new) ≡ filter (λ item. not (is_entry_in key_field item || is_entry_in value_field item)) (outline old)
   pub unmoved : IsLeftOf (Option Field) (outline new) (outline old)
 
--- where removing unused keys is accepted, each selected layer loses them, and nothing else differs
+-- where removing unused keys is accepted, each selected layer loses them, and nothing else differs but what is in the
+-- tags fields of its features; in which of these each tag is, and how it is spelled, is left open
 abbrev pub CompactKeysCompacts : Type 0
 CompactKeysCompacts = (choice : LayersChoice) (old new : Document) → applied (CompactKeys choice) old ≡ Ok new → ChangesLayers choice LosesKeys old new
 
--- where removing unused values is accepted, each selected layer loses them, and nothing else differs
+-- where removing unused values is accepted, each selected layer loses them, and nothing else differs but what is in the
+-- tags fields of its features; in which of these each tag is, and how it is spelled, is left open
 abbrev pub CompactValuesCompacts : Type 0
 CompactValuesCompacts = (choice : LayersChoice) (old new : Document) → applied (CompactValues choice) old ≡ Ok new → ChangesLayers choice LosesValues old new
 
--- where removing unused keys and values is accepted, each selected layer loses them, and nothing else differs
+-- where removing unused keys and values is accepted, each selected layer loses them, and nothing else differs but what
+-- is in the tags fields of its features; in which of these each tag is, and how it is spelled, is left open
 abbrev pub CompactCompacts : Type 0
 CompactCompacts = (choice : LayersChoice) (old new : Document) → applied (Compact choice) old ≡ Ok new → ChangesLayers choice LosesBoth old new
 

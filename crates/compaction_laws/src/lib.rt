@@ -8,7 +8,8 @@ ghost use Rattle.compaction_laws.specs.Laws.{AgainChangesNothing, CompactCompact
 /// Where removing the unused keys is accepted, each key of the selected layers is used by a
 /// feature, and each that was used has stayed, in its order and to the byte. Each feature has its
 /// attributes and its fields other than tags. The features, all other fields of these layers and
-/// the other layers stand as they did.
+/// the other layers stand as they did. By this law a tag might be in another of the tags fields of
+/// its feature or be spelled otherwise; `applied` says how it is.
 pub fn compact_keys_compacts()
     ensures { CompactKeysCompacts }
 {}
