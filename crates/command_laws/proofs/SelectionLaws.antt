@@ -1,15 +1,17 @@
--- Which layer a name means.
-use Rattle.std.proofs.Common.{◌≡◌, ℕ, zero, suc, ◌+◌, Bool, true, false, Option, Some, None, option_map, Ok, Err, List, [], ◌∷◌, slice_get, refl, sym, ap, ◌∙◌, inl, inr, subst, arith}
-use Rattle.std.proofs.lemmas.Bool.{cases_Bool}
+-- Which layer a name means, and which feature an id means.
+use Rattle.std.proofs.Common.{◌≡◌, ◌≢◌, ℕ, zero, suc, ◌+◌, Bool, true, false, Option, Some, None, option_map, Ok, Err, List, [], ◌∷◌, slice_get, refl, sym, ap, ◌∙◌, inl, inr, subst, arith}
+use Rattle.std.specs.Prelude.{◌==◌, ◌↔◌}
+use Rattle.std.proofs.lemmas.Bool.{cases_Bool, eq-eqb, eqb-true}
 use Rattle.std.proofs.lemmas.Slice.Eq.{bytes_eq-Decides}
 use Rattle.std.specs.Option.{option_map_or}
 use Rattle.std.specs.Str.{bytes_eq}
-use Rattle.mvt_document.specs.Plain.{Layer}
-use Rattle.mvt_messages.specs.Views.{is_named, layers, name_of}
-use Rattle.mvt_meaning.specs.declared.refusal.Refusal.TheVariants.{NoLayer}
+use Rattle.mvt_document.specs.Plain.{Feature, Layer}
+use Rattle.mvt_messages.specs.Views.{features, has_id, id_of, is_named, layers, name_of, the_one}
+use Rattle.mvt_meaning.specs.declared.refusal.Refusal.{Refusal}
+use Rattle.mvt_meaning.specs.declared.refusal.Refusal.TheVariants.{AmbiguousFeature, AmbiguousLayer, NoFeature, NoLayer}
 use Rattle.mvt_meaning.proofs.Positions.{positions_from, positions_pass, positions_skip}
-use Rattle.mvt_meaning.proofs.SelectionLemmas.{one_layer, two_apart}
-use Rattle.command_laws.specs.Laws.{NameMeansTheOne, NameMeansNone}
+use Rattle.mvt_meaning.proofs.SelectionLemmas.{two_apart}
+use Rattle.command_laws.specs.Laws.{HasId, HasName, IdMeansTheOne, IdMeansNone, NameMeansTheOne, NameMeansNone}
 
 -- an item passes at this position
 abbrev pub PassesAt : {A : Type 0} → (A → Bool) → List A → ℕ → Type 0
@@ -45,23 +47,14 @@ passes_position passes n (x ∷ xs) (suc j) k place e =
 
 -- ---- only one item passes
 
-only_one : (ordinals : List ℕ) (ordinal : ℕ) → one_layer ordinals ≡ Ok ordinal → ordinals ≡ ordinal ∷ []
-only_one [] ordinal e = absurd cc
-only_one (x ∷ []) ordinal e = let same : x ≡ ordinal = cc in ap (λ y. y ∷ []) same
-only_one (x ∷ y ∷ more) ordinal e = absurd cc
+only_one : (none several : Refusal) (ordinals : List ℕ) (ordinal : ℕ) → the_one none several ordinals ≡ Ok ordinal → ordinals ≡ ordinal ∷ []
+only_one none several [] ordinal e = absurd cc
+only_one none several (x ∷ []) ordinal e = let same : x ≡ ordinal = cc in ap (λ y. y ∷ []) same
+only_one none several (x ∷ y ∷ more) ordinal e = absurd cc
 
 in_one : (ordinal i k : ℕ) → slice_get (ordinal ∷ []) i ≡ Some k → k ≡ ordinal
 in_one ordinal zero k e = cc
 in_one ordinal (suc i) k e = absurd cc
-
-alone_passes : {A : Type 0} (passes : A → Bool) (xs : List A) (ordinal : ℕ) → one_layer (positions_from passes 0 xs) ≡ Ok ordinal → (other : ℕ) → (PassesAt passes xs other → other ≡ ordinal) × (other ≡ ordinal → PassesAt passes xs other)
-alone_passes passes xs ordinal e other =
-    let only = only_one (positions_from passes 0 xs) ordinal e in
-    let found = position_passes passes 0 xs 0 ordinal (ap (λ ys. slice_get ys 0) only) in
-    let there : found.0 ≡ ordinal = let place = found.1 in omega arith in (
-      λ pass. let at_position = passes_position passes 0 xs other other (omega arith) pass in in_one ordinal at_position.0 other (rw only at at_position.1),
-      λ same. subst (PassesAt passes xs) (there ∙ sym same) found.2,
-    )
 
 pub passes_there : {A : Type 0} (passes : A → Bool) (xs : List A) (i k : ℕ) → slice_get (positions_from passes 0 xs) i ≡ Some k → PassesAt passes xs k
 passes_there passes xs i k e =
@@ -69,14 +62,53 @@ passes_there passes xs i k e =
     let there : found.0 ≡ k = let place = found.1 in omega arith in
     subst (PassesAt passes xs) there found.2
 
-the_one_of : {A : Type 0} (passes : A → Bool) (xs : List A) (ordinal : ℕ) (ordinals : List ℕ) → positions_from passes 0 xs ≡ ordinals → ((other : ℕ) → PassesAt passes xs other → other ≡ ordinal) → PassesAt passes xs ordinal → one_layer ordinals ≡ Ok ordinal
-the_one_of passes xs ordinal [] e alone pass = absurd (let found = passes_position passes 0 xs ordinal ordinal (omega arith) pass in let nowhere = rw e at found.1 in cc)
-the_one_of passes xs ordinal (a ∷ []) e alone pass = ap (λ y. Ok y) (alone a (passes_there passes xs 0 a (ap (λ ys. slice_get ys 0) e)))
-the_one_of passes xs ordinal (a ∷ b ∷ more) e alone pass =
-    let first = alone a (passes_there passes xs 0 a (ap (λ ys. slice_get ys 0) e)) in
-    let second = alone b (passes_there passes xs 1 b (ap (λ ys. slice_get ys 1) e)) in
-    let apart = two_apart passes 0 a b xs more e in
-    absurd (omega arith)
+none_of : (none several : Refusal) → several ≢ none → (ordinals : List ℕ) → the_one none several ordinals ≡ Err none → ordinals ≡ []
+none_of none several apart [] e = refl
+none_of none several apart (x ∷ []) e = absurd cc
+none_of none several apart (x ∷ y ∷ more) e = let same : several ≡ none = cc in absurd (apart same)
+
+-- items that pass a test are selected where there is one, and else refused: `none` is the refusal where there is none
+module _ {A : Type 0} (none several : Refusal) (passes : A → Bool) (xs : List A) where
+  alone_passes : (ordinal : ℕ) → the_one none several (positions_from passes 0 xs) ≡ Ok ordinal → (other : ℕ) → (PassesAt passes xs other → other ≡ ordinal) × (other ≡ ordinal → PassesAt passes xs other)
+  alone_passes ordinal e other =
+      let only = only_one none several (positions_from passes 0 xs) ordinal e in
+      let found = position_passes passes 0 xs 0 ordinal (ap (λ ys. slice_get ys 0) only) in
+      let there : found.0 ≡ ordinal = let place = found.1 in omega arith in (
+        λ pass. let at_position = passes_position passes 0 xs other other (omega arith) pass in in_one ordinal at_position.0 other (rw only at at_position.1),
+        λ same. subst (PassesAt passes xs) (there ∙ sym same) found.2,
+      )
+
+  the_one_of : (ordinal : ℕ) (ordinals : List ℕ) → positions_from passes 0 xs ≡ ordinals → ((other : ℕ) → PassesAt passes xs other → other ≡ ordinal) → PassesAt passes xs ordinal → the_one none several ordinals ≡ Ok ordinal
+  the_one_of ordinal [] e alone pass = absurd (let found = passes_position passes 0 xs ordinal ordinal (omega arith) pass in let nowhere = rw e at found.1 in cc)
+  the_one_of ordinal (a ∷ []) e alone pass = ap (λ y. Ok y) (alone a (passes_there passes xs 0 a (ap (λ ys. slice_get ys 0) e)))
+  the_one_of ordinal (a ∷ b ∷ more) e alone pass =
+      let first = alone a (passes_there passes xs 0 a (ap (λ ys. slice_get ys 0) e)) in
+      let second = alone b (passes_there passes xs 1 b (ap (λ ys. slice_get ys 1) e)) in
+      let apart = two_apart passes 0 a b xs more e in
+      absurd (omega arith)
+
+  no_one_of : (ordinals : List ℕ) → positions_from passes 0 xs ≡ ordinals → ((other : ℕ) → PassesAt passes xs other → ⊥) → the_one none several ordinals ≡ Err none
+  no_one_of [] e no_other = refl
+  no_one_of (a ∷ more) e no_other = absurd (no_other a (passes_there passes xs 0 a (ap (λ ys. slice_get ys 0) e)))
+
+  -- `Has` says that the item of an ordinal passes
+  module _ (Has : ℕ → Type 0) (passing : (at : ℕ) → Has at → PassesAt passes xs at) (having : (at : ℕ) → PassesAt passes xs at → Has at) where
+    means_the_one : (ordinal : ℕ) → (the_one none several (positions_from passes 0 xs) ≡ Ok ordinal) ↔ ((other : ℕ) → Has other ↔ (other ≡ ordinal))
+    means_the_one ordinal = (
+      λ e other. (λ has. (alone_passes ordinal e other).0 (passing other has), λ same. having other ((alone_passes ordinal e other).1 same)),
+      λ alone. the_one_of ordinal (positions_from passes 0 xs) refl (λ other pass. (alone other).0 (having other pass)) (passing ordinal ((alone ordinal).1 refl)),
+    )
+
+    means_none : several ≢ none → (the_one none several (positions_from passes 0 xs) ≡ Err none) ↔ ((other : ℕ) → ¬ Has other)
+    means_none apart = (
+      λ e other has. (
+          let nowhere = none_of none several apart (positions_from passes 0 xs) e in
+          let found = passes_position passes 0 xs other other (omega arith) (passing other has) in
+          let absent = rw nowhere at found.1 in
+          cc
+          ),
+      λ no_other. no_one_of (positions_from passes 0 xs) refl (λ other pass. no_other other (having other pass)),
+    )
 
 -- ---- names
 
@@ -95,32 +127,37 @@ at_named name None e = absurd cc
 at_named name (Some layer) e = let named : is_named name layer ≡ true = cc in ap (λ t. Some t) (is_text name (name_of layer) named)
 
 pub name_means_the_one : NameMeansTheOne
-name_means_the_one name document ordinal = (
-  λ e other. (
-    λ has. (alone_passes (is_named name) (layers document) ordinal e other).0 (named_at name (slice_get (layers document) other) has),
-    λ same. at_named name (slice_get (layers document) other) ((alone_passes (is_named name) (layers document) ordinal e other).1 same),
-  ),
-  λ alone. the_one_of (is_named name) (layers document) ordinal (positions_from (is_named name) 0 (layers document)) refl
-      (λ other pass. (alone other).0 (at_named name (slice_get (layers document) other) pass))
-      (named_at name (slice_get (layers document) ordinal) ((alone ordinal).1 refl)),
-)
-
-none_of : (ordinals : List ℕ) → one_layer ordinals ≡ Err NoLayer → ordinals ≡ []
-none_of [] e = refl
-none_of (x ∷ []) e = absurd cc
-none_of (x ∷ y ∷ more) e = absurd cc
-
-no_one_of : {A : Type 0} (passes : A → Bool) (xs : List A) (ordinals : List ℕ) → positions_from passes 0 xs ≡ ordinals → ((other : ℕ) → PassesAt passes xs other → ⊥) → one_layer ordinals ≡ Err NoLayer
-no_one_of passes xs [] e none = refl
-no_one_of passes xs (a ∷ more) e none = absurd (none a (passes_there passes xs 0 a (ap (λ ys. slice_get ys 0) e)))
+name_means_the_one name document ordinal =
+    means_the_one NoLayer AmbiguousLayer (is_named name) (layers document) (λ other. HasName name other document)
+    (λ other. named_at name (slice_get (layers document) other)) (λ other. at_named name (slice_get (layers document) other)) ordinal
 
 pub name_means_none : NameMeansNone
-name_means_none name document = (
-  λ e other has. (
-      let nowhere = none_of (positions_from (is_named name) 0 (layers document)) e in
-      let found = passes_position (is_named name) 0 (layers document) other other (omega arith) (named_at name (slice_get (layers document) other) has) in
-      let absent = rw nowhere at found.1 in
-      cc
-      ),
-  λ none. no_one_of (is_named name) (layers document) (positions_from (is_named name) 0 (layers document)) refl (λ other pass. none other (at_named name (slice_get (layers document) other) pass)),
-)
+name_means_none name document =
+    means_none NoLayer AmbiguousLayer (is_named name) (layers document) (λ other. HasName name other document)
+    (λ other. named_at name (slice_get (layers document) other)) (λ other. at_named name (slice_get (layers document) other)) (λ same. cc)
+
+-- ---- ids
+
+is_id : (id : ℕ) (found : Option ℕ) → option_map_or (λ n. n == id) found false ≡ true → found ≡ Some id
+is_id id None e = absurd cc
+is_id id (Some n) e = ap (λ t. Some t) (eqb-true n id e)
+
+id_passes : (id : ℕ) (feature : Option Feature) → option_map id_of feature ≡ Some (Some id) → option_map (has_id id) feature ≡ Some true
+id_passes id None e = absurd cc
+id_passes id (Some feature) e =
+    let found : id_of feature ≡ Some id = cc in
+    ap (λ b. Some b) (rw found (eq-eqb id id refl))
+
+passing_id : (id : ℕ) (feature : Option Feature) → option_map (has_id id) feature ≡ Some true → option_map id_of feature ≡ Some (Some id)
+passing_id id None e = absurd cc
+passing_id id (Some feature) e = let has : has_id id feature ≡ true = cc in ap (λ t. Some t) (is_id id (id_of feature) has)
+
+pub id_means_the_one : IdMeansTheOne
+id_means_the_one id layer ordinal =
+    means_the_one NoFeature AmbiguousFeature (has_id id) (features layer) (λ other. HasId id other layer)
+    (λ other. id_passes id (slice_get (features layer) other)) (λ other. passing_id id (slice_get (features layer) other)) ordinal
+
+pub id_means_none : IdMeansNone
+id_means_none id layer =
+    means_none NoFeature AmbiguousFeature (has_id id) (features layer) (λ other. HasId id other layer)
+    (λ other. id_passes id (slice_get (features layer) other)) (λ other. passing_id id (slice_get (features layer) other)) (λ same. cc)

@@ -4,7 +4,7 @@
 ghost use Rattle.command_laws.specs.DocumentLaws.{CommandMakesDocument};
 ghost use Rattle.command_laws.specs.FeatureLaws.{ClearIdClears, DropFeatureDrops, InsertFeatureInserts, MoveFeatureMoves, SetIdSets};
 ghost use Rattle.command_laws.specs.LayerLaws.{DropLayerDrops, KeepLayersKeeps, MoveLayerMoves, RenameNames};
-ghost use Rattle.command_laws.specs.Laws.{NameMeansTheOne, NameMeansNone};
+ghost use Rattle.command_laws.specs.Laws.{IdMeansTheOne, IdMeansNone, NameMeansTheOne, NameMeansNone};
 ghost use Rattle.command_laws.specs.MemoryLaws.{NoCommandIsOutOfMemory};
 ghost use Rattle.command_laws.specs.SizeLaws.{CommandFits, NeverLonger};
 ghost use Rattle.command_laws.specs.WeightLaws.{PutWithin, TakenWithin};
@@ -74,6 +74,14 @@ pub fn name_means_the_one()
 /// A name is refused as that of no layer exactly where no layer has it.
 pub fn name_means_none()
     ensures { NameMeansNone }
+{}
+
+/// An id selects the feature of an ordinal in its layer exactly where only that feature of the
+/// layer has it (`the_one`), and is refused as that of no feature exactly where none of the layer
+/// has it (`none`).
+pub fn id_means_a_feature()
+    ensures the_one { IdMeansTheOne }
+    ensures none { IdMeansNone }
 {}
 
 /// An accepted command makes a document of a document. A file has only numbers below 2^64, so a new
