@@ -100,7 +100,7 @@ raw_form_feedless (b ∷ bytes) = joined (codes "raw ") (encode_lower (b ∷ byt
 
 -- ---- geometries
 
-placed_fits : (z : ℤ) → unsigned_abs z ≤ 2 ^ 62 → FitsSigned w64 z
+pub placed_fits : (z : ℤ) → unsigned_abs z ≤ 2 ^ 62 → FitsSigned w64 z
 placed_fits (pos n) le = omega (arith, le)
 placed_fits (negsuc n) le = omega (arith, le)
 

@@ -23,6 +23,7 @@ use Rattle.tile_text.specs.Texts.{quoted, text_form, truth_form, value_words}
 use Rattle.tile_text.specs.ReadBack.{AreBytes, HoldsBytes, IsReadAsText, IsReadAsValue}
 use Rattle.tile_text.proofs.Digits.{decimal_all, signed_all, hex_all}
 use Rattle.tile_text.proofs.Lists.{none_passes}
+use Rattle.tile_text.proofs.Readable.{text_form_readable, value_form_readable}
 use Rattle.tile_text.proofs.Numerals.{Lies, number_reads, signed_reads}
 use Rattle.tile_text.proofs.Spelled.{quoted_spelled, hex_text_spelled, hex_is_bare}
 
@@ -65,7 +66,7 @@ text_of_read word bytes e = ap (λ (o : Option (List ℕ)). ok_or o BadArguments
 pub text_read_back : (bytes : List ℕ) → AreBytes bytes → IsReadAsText bytes
 text_read_back bytes h =
     let says = text_says bytes h in
-    record { word = says.word; spelled = says.spelled; read = text_of_read says.word bytes says.read }
+    record { readable = text_form_readable bytes; word = says.word; spelled = says.spelled; read = text_of_read says.word bytes says.read }
 
 -- ---- bare words
 
@@ -144,18 +145,18 @@ truth_spelled : (truth : Bool) → SpellsWord (truth_form truth) (Bare (truth_fo
 truth_spelled true = bare_spelled (codes "true") (omega arith) refl
 truth_spelled false = bare_spelled (codes "false") (omega arith) refl
 
-reads_as : (value : Value) (name : List ℕ) (argument : Word) → (value_words value).0 ≡ name → 0 < length name → bare_test name ≡ true → SpellsWord (value_words value).1 argument → value_of (Bare name) argument ≡ Ok value → IsReadAsValue value
-reads_as value name argument e lt bare spelled read =
+reads_as : (value : Value) (name : List ℕ) (argument : Word) → IsWritable value → (value_words value).0 ≡ name → 0 < length name → bare_test name ≡ true → SpellsWord (value_words value).1 argument → value_of (Bare name) argument ≡ Ok value → IsReadAsValue value
+reads_as value name argument fits e lt bare spelled read =
     let first : SpellsWord (value_words value).0 (Bare name) = rw e (bare_spelled name lt bare) in
-    record { name = Bare name; argument = argument; name_spelled = first; argument_spelled = spelled; line = two_words _ _ (Bare name) argument first spelled; read = read }
+    record { readable = value_form_readable value fits; name = Bare name; argument = argument; name_spelled = first; argument_spelled = spelled; line = two_words _ _ (Bare name) argument first spelled; read = read }
 
 pub value_read_back : (value : Value) → IsWritable value → HoldsBytes value → IsReadAsValue value
 value_read_back (OfText text) fits h =
     let says = text_says text h in
-    reads_as (OfText text) (codes "string") says.word refl (omega arith) refl says.spelled (text_value says.word text says.read)
-value_read_back (OfFloat bytes) fits h = reads_as (OfFloat bytes) (codes "float") _ refl (omega arith) refl (hex_spelled bytes (omega arith)) (float_value bytes fits h)
-value_read_back (OfDouble bytes) fits h = reads_as (OfDouble bytes) (codes "double") _ refl (omega arith) refl (hex_spelled bytes (omega arith)) (double_value bytes fits h)
-value_read_back (OfInt z) fits h = reads_as (OfInt z) (codes "int") _ refl (omega arith) refl (signed_spelled z fits) (int_value z fits)
-value_read_back (OfUint n) fits h = reads_as (OfUint n) (codes "uint") _ refl (omega arith) refl (decimal_spelled n fits) (uint_value n fits)
-value_read_back (OfSint z) fits h = reads_as (OfSint z) (codes "sint") _ refl (omega arith) refl (signed_spelled z fits) (sint_value z fits)
-value_read_back (OfBool truth) fits h = reads_as (OfBool truth) (codes "bool") _ refl (omega arith) refl (truth_spelled truth) (truth_value truth)
+    reads_as (OfText text) (codes "string") says.word fits refl (omega arith) refl says.spelled (text_value says.word text says.read)
+value_read_back (OfFloat bytes) fits h = reads_as (OfFloat bytes) (codes "float") _ fits refl (omega arith) refl (hex_spelled bytes (omega arith)) (float_value bytes fits h)
+value_read_back (OfDouble bytes) fits h = reads_as (OfDouble bytes) (codes "double") _ fits refl (omega arith) refl (hex_spelled bytes (omega arith)) (double_value bytes fits h)
+value_read_back (OfInt z) fits h = reads_as (OfInt z) (codes "int") _ fits refl (omega arith) refl (signed_spelled z fits) (int_value z fits)
+value_read_back (OfUint n) fits h = reads_as (OfUint n) (codes "uint") _ fits refl (omega arith) refl (decimal_spelled n fits) (uint_value n fits)
+value_read_back (OfSint z) fits h = reads_as (OfSint z) (codes "sint") _ fits refl (omega arith) refl (signed_spelled z fits) (sint_value z fits)
+value_read_back (OfBool truth) fits h = reads_as (OfBool truth) (codes "bool") _ fits refl (omega arith) refl (truth_spelled truth) (truth_value truth)

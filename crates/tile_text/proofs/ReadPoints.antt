@@ -28,6 +28,7 @@ use Rattle.tile_text.specs.TextStands.{with_leading_spaces}
 use Rattle.tile_text.specs.ReadBack.{IsNear, IsReadAsGeometry}
 use Rattle.tile_text.proofs.Digits.{signed_all}
 use Rattle.tile_text.proofs.Lists.{words_all}
+use Rattle.tile_text.proofs.Readable.{geometry_form_readable}
 use Rattle.tile_text.proofs.Numerals.{Lies, signed_reads}
 use Rattle.tile_text.proofs.ReadAgain.{bare_spelled, digit_is_bare, signed_long}
 
@@ -188,6 +189,7 @@ pub geometry_read_back : (g : Geometry) → IsGeometry g → AllByRecursion (All
 geometry_read_back g valid near =
     let following = parts_spelled g.parts near in
     record {
+      readable = geometry_form_readable g valid;
       spelled = (kind_spelled g.kind, following);
       line = ([], kind_word g.kind, with_leading_spaces (part_words g.parts), refl, tt, kind_spelled g.kind, ends (part_words g.parts), spaced_spelled (part_words g.parts) following);
       read = geometry_reads g valid near;

@@ -1,6 +1,7 @@
 -- Forms that a script reads as what they were written for.
-use Rattle.std.specs.Prelude.{◌≡◌, ℕ, ◌^◌, ◌<◌, unsigned_abs, List, [], ◌∷◌, map, Ok}
+use Rattle.std.specs.Prelude.{◌≡◌, ℕ, ◌^◌, ◌<◌, unsigned_abs, true, List, [], ◌∷◌, map, Ok}
 use Rattle.std.specs.List.{All, AllByRecursion}
+use Rattle.std.specs.Str.{is_utf8}
 use Rattle.mvt_value.specs.Values.{Value, OfText, OfFloat, OfDouble}
 use Rattle.mvt_geometry.specs.Shapes.{Geometry}
 use Rattle.mvt_geometry.specs.declared.shapes.Point.{Point}
@@ -25,14 +26,16 @@ pub record IsNear (p : Point) : Type 0 where
   pub x : unsigned_abs p.x < 2 ^ 31
   pub y : unsigned_abs p.y < 2 ^ 31
 
--- the form of the bytes is spelled as a word, and that word says these bytes as a text
+-- the form of the bytes is UTF-8, as a line has to be, and spelled as a word, and that word says these bytes as a text
 pub record IsReadAsText (bytes : List ℕ) : Type 0 where
+  pub readable : is_utf8 (text_form bytes) ≡ true
   pub word : Word
   pub spelled : SpellsWord (text_form bytes) word
   pub read : text_of word ≡ Ok bytes
 
--- the form of the value is spelled as two words, and they say this value
+-- the form of the value is UTF-8, as a line has to be, and spelled as two words, and they say this value
 pub record IsReadAsValue (value : Value) : Type 0 where
+  pub readable : is_utf8 (value_form value) ≡ true
   pub name : Word
   pub argument : Word
   pub name_spelled : SpellsWord (value_words value).0 name
@@ -40,8 +43,9 @@ pub record IsReadAsValue (value : Value) : Type 0 where
   pub line : SpellsWords (value_form value) (name ∷ argument ∷ [])
   pub read : value_of name argument ≡ Ok value
 
--- the form of the geometry is spelled as bare words, and they say this geometry
+-- the form of the geometry is UTF-8, as a line has to be, and spelled as bare words, and they say this geometry
 pub record IsReadAsGeometry (g : Geometry) : Type 0 where
+  pub readable : is_utf8 (geometry_form g) ≡ true
   pub spelled : AllByRecursion (λ form. SpellsWord form (Bare form)) (geometry_words g)
   pub line : SpellsWords (geometry_form g) (map Bare (geometry_words g))
   pub read : geometry_of (map Bare (geometry_words g)) ≡ Ok g
