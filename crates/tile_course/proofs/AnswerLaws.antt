@@ -1,5 +1,5 @@
 -- What the laws of requests rest on.
-use Rattle.std.proofs.Common.{◌≡◌, ◌≢◌, ◌-◌, inl, inr, ℕ, suc, option_map, Bool, true, false, ℤ, pos, negsuc, List, [], ◌∷◌, ◌++◌, length, Option, Some, None, Result, Ok, Err, codes, decimal, get_or, refl, sym, ap, subst, ◌∙◌, arith}
+use Rattle.std.proofs.Common.{◌≡◌, ◌≢◌, ◌-◌, inl, inr, ℕ, suc, option_map, Bool, true, false, ℤ, pos, negsuc, List, [], ◌∷◌, ◌++◌, length, Option, Some, None, Result, Ok, Err, codes, decimal, refl, sym, ap, subst, ◌∙◌, arith}
 use Rattle.std.specs.Prelude.{◌-ℤ◌, if◌then◌else◌}
 use Rattle.std.specs.Fmt.{signed_decimal}
 use Rattle.std.proofs.lemmas.Grind.{flat_map-append}
@@ -20,7 +20,7 @@ use Rattle.tile_text.proofs.Feeds.{text_form_feedless}
 use Rattle.tile_arguments.specs.Request.{OnHistory, ListMarks, PrintHistory, Size, Lists}
 use Rattle.tile_listing.specs.Listing.{listed}
 use Rattle.tile_listing.specs.Printed.{MayBePrinted, AreLinesToPrint}
-use Rattle.tile_listing.proofs.Printing.{uncut-append, decimal_uncut, none_to_print, one_to_print}
+use Rattle.tile_listing.proofs.Printing.{uncut-append, decimal_uncut, may_print, none_to_print, one_to_print}
 use Rattle.tile_listing.proofs.ListingLaws.{listings_are_lines, no_listing_is_out_of_memory}
 use Rattle.mvt_history_steps.specs.Marks.{Mark}
 use Rattle.mvt_history_steps.specs.History.{History, standing_document, unless_open, gone_to, ended, edited_to, edited, undone, redone, marked, unmarked, gone_back, opened, closed, cancelled}
@@ -48,10 +48,8 @@ both_to_print first second before following = record {
 size_to_print : (document : Document) → AreLinesToPrint (size_line document)
 size_to_print document =
     let count = decimal (length (bytes_of document)) in
-    one_to_print (codes "size " ++ count) (record {
-      uncut = uncut-append (codes "size ") count (refl, (refl, (refl, (refl, (refl, tt))))) (decimal_uncut (length (bytes_of document)));
-      other = λ rest e. let apart : ◌≡◌ {A = ℕ} 115 108 = ap (λ (bytes : List ℕ). get_or bytes 0 0) e in omega arith;
-    })
+    one_to_print (codes "size " ++ count)
+    (may_print _ (uncut-append (codes "size ") count (refl, (refl, (refl, (refl, (refl, tt))))) (decimal_uncut (length (bytes_of document)))) refl refl)
 
 signed_uncut : (number : ℤ) → HasNoLineFeed (signed_decimal number)
 signed_uncut (pos number) = decimal_uncut number
@@ -62,10 +60,8 @@ mark_to_print present mark =
     let offset = signed_decimal (pos mark.point -ℤ pos present) in
     let named = uncut-append (codes "mark ") (text_form mark.name) (refl, (refl, (refl, (refl, (refl, tt))))) (text_form_feedless mark.name) in
     let spaced = uncut-append (codes "mark " ++ text_form mark.name) (codes " ") named (refl, tt) in
-    one_to_print (codes "mark " ++ text_form mark.name ++ codes " " ++ offset) (record {
-      uncut = uncut-append (codes "mark " ++ text_form mark.name ++ codes " ") offset spaced (signed_uncut (pos mark.point -ℤ pos present));
-      other = λ rest e. let apart : ◌≡◌ {A = ℕ} 109 108 = ap (λ (bytes : List ℕ). get_or bytes 0 0) e in omega arith;
-    })
+    one_to_print (codes "mark " ++ text_form mark.name ++ codes " " ++ offset)
+    (may_print _ (uncut-append (codes "mark " ++ text_form mark.name ++ codes " ") offset spaced (signed_uncut (pos mark.point -ℤ pos present))) refl refl)
 
 marks_to_print : (present : ℕ) (marks : List Mark) → AreLinesToPrint (flat_map (mark_line present) marks)
 marks_to_print present [] = none_to_print
@@ -77,18 +73,14 @@ reach_to_print undo redo depth =
     let second = uncut-append (codes "undo " ++ decimal undo) (codes " redo ") first (refl, (refl, (refl, (refl, (refl, (refl, tt)))))) in
     let third = uncut-append (codes "undo " ++ decimal undo ++ codes " redo ") (decimal redo) second (decimal_uncut redo) in
     let fourth = uncut-append (codes "undo " ++ decimal undo ++ codes " redo " ++ decimal redo) (codes " depth ") third (refl, (refl, (refl, (refl, (refl, (refl, (refl, tt))))))) in
-    one_to_print (codes "undo " ++ decimal undo ++ codes " redo " ++ decimal redo ++ codes " depth " ++ decimal depth) (record {
-      uncut = uncut-append (codes "undo " ++ decimal undo ++ codes " redo " ++ decimal redo ++ codes " depth ") (decimal depth) fourth (decimal_uncut depth);
-      other = λ rest e. let apart : ◌≡◌ {A = ℕ} 117 108 = ap (λ (bytes : List ℕ). get_or bytes 0 0) e in omega arith;
-    })
+    one_to_print (codes "undo " ++ decimal undo ++ codes " redo " ++ decimal redo ++ codes " depth " ++ decimal depth)
+    (may_print _ (uncut-append (codes "undo " ++ decimal undo ++ codes " redo " ++ decimal redo ++ codes " depth ") (decimal depth) fourth (decimal_uncut depth)) refl refl)
 
 step_to_print : (commands : Option ℕ) → AreLinesToPrint (open_line commands)
 step_to_print None = none_to_print
 step_to_print (Some commands) =
-    one_to_print (codes "open " ++ decimal commands) (record {
-      uncut = uncut-append (codes "open ") (decimal commands) (refl, (refl, (refl, (refl, (refl, tt))))) (decimal_uncut commands);
-      other = λ rest e. let apart : ◌≡◌ {A = ℕ} 111 108 = ap (λ (bytes : List ℕ). get_or bytes 0 0) e in omega arith;
-    })
+    one_to_print (codes "open " ++ decimal commands)
+    (may_print _ (uncut-append (codes "open ") (decimal commands) (refl, (refl, (refl, (refl, (refl, tt))))) (decimal_uncut commands)) refl refl)
 
 history_to_print : (history : History) → AreLinesToPrint (history_lines history)
 history_to_print history =

@@ -7,7 +7,7 @@ use Rattle.tile_course.specs.Replies.{IsOutOfMemory}
 use Rattle.tile_course.specs.declared.refused.Refused.{Refused}
 use Rattle.tile_course.specs.Answering.{Answer, carried_out}
 
--- what a request prints is whole lines, and none of them looks like a refusal
+-- what a request prints is whole lines, and none of them is `ok` or looks like a refusal
 abbrev pub RequestsPrintLines : Type 0
 RequestsPrintLines = (request : Request) (history : History) (answer : Answer) → carried_out request history ≡ Ok answer → AreLinesToPrint answer.lines
 

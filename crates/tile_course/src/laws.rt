@@ -11,7 +11,8 @@ pub fn limits()
     ensures retries { MAX_RETRIES ≡ 1000 }
 {}
 
-/// What a request prints before `ok` is whole lines, and none of them begins as a refusal does.
+/// What a request prints before `ok` is whole lines, and none of them is `ok` or begins as a refusal
+/// does.
 pub fn requests_print_lines()
     ensures { RequestsPrintLines }
 {}

@@ -1,9 +1,9 @@
 -- Each line of a listing may be printed.
-use Rattle.std.proofs.Common.{◌≡◌, ◌≢◌, ℕ, ◌==◌, Bool, true, false, List, [], ◌∷◌, ◌++◌, length, map, Option, Some, None, codes, decimal, refl, sym, ◌∙◌}
-use Rattle.std.specs.Prelude.{◌&&◌, not, slice_index, if◌then◌else◌}
+use Rattle.std.proofs.Common.{◌≡◌, ℕ, ◌==◌, Bool, true, List, [], ◌∷◌, ◌++◌, length, map, Option, Some, None, codes, decimal, refl}
+use Rattle.std.specs.Prelude.{◌&&◌, not}
 use Rattle.std.specs.List.{AllByRecursion, enumerate_from, find}
 use Rattle.std.specs.Option.{option_and_then, option_map_or}
-use Rattle.std.proofs.lemmas.Bool.{and_parts, false≢true, not-true}
+use Rattle.std.proofs.lemmas.Bool.{and_parts, not-true}
 use Rattle.mvt_document.specs.Plain.{Document, Feature, Layer}
 use Rattle.mvt_value.specs.Values.{Value}
 use Rattle.mvt_value.proofs.Fields.{read_in_range}
@@ -23,7 +23,7 @@ use Rattle.tile_lines.specs.Lines.{is_line_feed, HasNoLineFeed}
 use Rattle.mvt_meaning.specs.Geometries.{geometry_among}
 use Rattle.tile_listing.specs.Listing.{absent, attribute_line, attribute_lines, feature_line, geometry_line, id_word, key_line, kind_form, layer_line, layer_numbers, layers_line, lines_of_feature, lines_of_layer, lines_of_tile, name_word, numbered, spaced, value_line, value_shown}
 use Rattle.tile_listing.specs.Printed.{MayBePrinted}
-use Rattle.tile_listing.proofs.Printing.{uncut-append, decimal_uncut, one_of}
+use Rattle.tile_listing.proofs.Printing.{uncut-append, decimal_uncut, may_print, one_of}
 
 -- ---- words without a line feed
 
@@ -75,15 +75,11 @@ found_geometry_uncut feature (Some geometry) e = geometry_form_feedless geometry
 
 -- ---- lines
 
--- the second byte is not that of `line `
-other_than : (line : List ℕ) → (slice_index line 1 == 105) ≡ false → (rest : List ℕ) → line ≢ codes "line " ++ rest
-other_than line other rest e = let same : (slice_index line 1 == 105) ≡ true = rw e refl in absurd (false≢true (sym other ∙ same))
-
 layers_line_may : (document : Document) → MayBePrinted (layers_line document)
-layers_line_may document = record {
-  uncut = spaced_uncut (codes "layers" ∷ decimal (length (layers document)) ∷ []) (tested (codes "layers") refl, (decimal_uncut _, tt));
-  other = other_than (layers_line document) refl;
-}
+layers_line_may document =
+    may_print (layers_line document)
+    (spaced_uncut (codes "layers" ∷ decimal (length (layers document)) ∷ []) (tested (codes "layers") refl, (decimal_uncut _, tt)))
+    refl refl
 
 layer_numbers_uncut : (layer : Layer) → HasNoLineFeed (layer_numbers layer)
 layer_numbers_uncut layer = spaced_uncut
@@ -92,46 +88,46 @@ layer_numbers_uncut layer = spaced_uncut
     (tested (codes "version") refl, (decimal_uncut _, (tested (codes "extent") refl, (decimal_uncut _, (tested (codes "features") refl, (decimal_uncut _, (tested (codes "keys") refl, (decimal_uncut _, (tested (codes "values") refl, (decimal_uncut _, tt))))))))))
 
 layer_line_may : (ordinal : ℕ) (layer : Layer) → MayBePrinted (layer_line ordinal layer)
-layer_line_may ordinal layer = record {
-  uncut = spaced_uncut (codes "layer" ∷ decimal ordinal ∷ name_word (name_of layer) ∷ layer_numbers layer ∷ [])
-      (tested (codes "layer") refl, (decimal_uncut ordinal, (name_uncut (name_of layer), (layer_numbers_uncut layer, tt))));
-  other = other_than (layer_line ordinal layer) refl;
-}
+layer_line_may ordinal layer =
+    may_print (layer_line ordinal layer)
+    (spaced_uncut (codes "layer" ∷ decimal ordinal ∷ name_word (name_of layer) ∷ layer_numbers layer ∷ [])
+    (tested (codes "layer") refl, (decimal_uncut ordinal, (name_uncut (name_of layer), (layer_numbers_uncut layer, tt)))))
+    refl refl
 
 key_line_may : (ordinal : ℕ) (key : List ℕ) → MayBePrinted (key_line ordinal key)
-key_line_may ordinal key = record {
-  uncut = spaced_uncut (codes "key" ∷ decimal ordinal ∷ text_form key ∷ []) (tested (codes "key") refl, (decimal_uncut ordinal, (text_form_feedless key, tt)));
-  other = other_than (key_line ordinal key) refl;
-}
+key_line_may ordinal key =
+    may_print (key_line ordinal key)
+    (spaced_uncut (codes "key" ∷ decimal ordinal ∷ text_form key ∷ []) (tested (codes "key") refl, (decimal_uncut ordinal, (text_form_feedless key, tt))))
+    refl refl
 
 value_line_may : (ordinal : ℕ) (value : List ℕ) → MayBePrinted (value_line ordinal value)
-value_line_may ordinal value = record {
-  uncut = spaced_uncut (codes "value" ∷ decimal ordinal ∷ value_shown value ∷ []) (tested (codes "value") refl, (decimal_uncut ordinal, (value_uncut value, tt)));
-  other = other_than (value_line ordinal value) refl;
-}
+value_line_may ordinal value =
+    may_print (value_line ordinal value)
+    (spaced_uncut (codes "value" ∷ decimal ordinal ∷ value_shown value ∷ []) (tested (codes "value") refl, (decimal_uncut ordinal, (value_uncut value, tt))))
+    refl refl
 
 feature_line_may : (ordinal : ℕ) (feature : Feature) → MayBePrinted (feature_line ordinal feature)
-feature_line_may ordinal feature = record {
-  uncut = spaced_uncut (codes "feature" ∷ decimal ordinal ∷ codes "id" ∷ id_word (id_of feature) ∷ kind_form (kind_of feature) ∷ [])
-      (tested (codes "feature") refl, (decimal_uncut ordinal, (tested (codes "id") refl, (id_uncut (id_of feature), (kind_uncut (kind_of feature), tt)))));
-  other = other_than (feature_line ordinal feature) refl;
-}
+feature_line_may ordinal feature =
+    may_print (feature_line ordinal feature)
+    (spaced_uncut (codes "feature" ∷ decimal ordinal ∷ codes "id" ∷ id_word (id_of feature) ∷ kind_form (kind_of feature) ∷ [])
+    (tested (codes "feature") refl, (decimal_uncut ordinal, (tested (codes "id") refl, (id_uncut (id_of feature), (kind_uncut (kind_of feature), tt))))))
+    refl refl
 
 attribute_line_may : (attribute : List ℕ × List ℕ) → MayBePrinted (attribute_line attribute)
-attribute_line_may attribute = record {
-  uncut = spaced_uncut (codes "attribute" ∷ text_form attribute.0 ∷ value_shown attribute.1 ∷ []) (tested (codes "attribute") refl, (text_form_feedless attribute.0, (value_uncut attribute.1, tt)));
-  other = other_than (attribute_line attribute) refl;
-}
+attribute_line_may attribute =
+    may_print (attribute_line attribute)
+    (spaced_uncut (codes "attribute" ∷ text_form attribute.0 ∷ value_shown attribute.1 ∷ []) (tested (codes "attribute") refl, (text_form_feedless attribute.0, (value_uncut attribute.1, tt))))
+    refl refl
 
 unreadable_may : MayBePrinted (codes "attributes unreadable")
-unreadable_may = record { uncut = tested (codes "attributes unreadable") refl; other = other_than (codes "attributes unreadable") refl }
+unreadable_may = may_print (codes "attributes unreadable") (tested (codes "attributes unreadable") refl) refl refl
 
 geometry_line_may : (feature : Feature) → MayBePrinted (geometry_line feature)
-geometry_line_may feature = record {
-  uncut = spaced_uncut (codes "geometry" ∷ option_map_or geometry_form (geometry_among feature.fields) (codes "unreadable") ∷ [])
-      (tested (codes "geometry") refl, (found_geometry_uncut feature (geometry_among feature.fields) refl, tt));
-  other = other_than (geometry_line feature) refl;
-}
+geometry_line_may feature =
+    may_print (geometry_line feature)
+    (spaced_uncut (codes "geometry" ∷ option_map_or geometry_form (geometry_among feature.fields) (codes "unreadable") ∷ [])
+    (tested (codes "geometry") refl, (found_geometry_uncut feature (geometry_among feature.fields) refl, tt)))
+    refl refl
 
 -- ---- listings
 

@@ -1,7 +1,8 @@
 -- Lines that may be printed.
-use Rattle.std.proofs.Common.{◌≡◌, ℕ, zero, suc, ◌/◌, ◌%◌, ◌==◌, Bool, true, false, List, [], ◌∷◌, ◌++◌, decimal, refl, sym, append-nil, arith}
-use Rattle.std.specs.Prelude.{nat_lt, if◌then◌else◌}
+use Rattle.std.proofs.Common.{◌≡◌, ℕ, zero, suc, ◌/◌, ◌%◌, ◌==◌, Bool, true, false, List, [], ◌∷◌, ◌++◌, decimal, refl, sym, ◌∙◌, append-nil, arith}
+use Rattle.std.specs.Prelude.{nat_lt, slice_index, if◌then◌else◌}
 use Rattle.std.specs.Fmt.{digits, digits_onto, digit_glyph}
+use Rattle.std.proofs.lemmas.Bool.{false≢true}
 use Rattle.std.proofs.lemmas.Bool.Decides.{nat_tests}
 use Rattle.std.proofs.lemmas.List.Elements.{All-nil, All-cons}
 use Rattle.tile_lines.specs.Lines.{is_line_feed, HasNoLineFeed, with_feed}
@@ -29,6 +30,14 @@ unfolding digits
 decimal_uncut n = digits_uncut 64 n [] tt
 
 -- ---- lines to print
+
+-- a line whose third byte is neither that of `line ` nor missing, as in `ok`
+pub may_print : (line : List ℕ) → HasNoLineFeed line → (slice_index line 2 == 110) ≡ false → (slice_index line 2 == 0) ≡ false → MayBePrinted line
+may_print line uncut other there = record {
+  uncut = uncut;
+  unlike_ok = λ e. let same : (slice_index line 2 == 0) ≡ true = rw e refl in false≢true (sym there ∙ same);
+  other = λ rest e. let same : (slice_index line 2 == 110) ≡ true = rw e refl in false≢true (sym other ∙ same);
+}
 
 pub none_to_print : AreLinesToPrint []
 none_to_print = record { lines = []; spelled = refl; each = All-nil MayBePrinted }

@@ -8,7 +8,7 @@ use Rattle.tile_arguments.specs.Request.{What}
 use Rattle.tile_listing.specs.Listing.{chosen_feature, chosen_layer, listed}
 use Rattle.tile_listing.specs.Printed.{AreLinesToPrint}
 
--- a listing is whole lines, and none of them looks like a refusal
+-- a listing is whole lines, and none of them is `ok` or looks like a refusal
 abbrev pub ListingsAreLines : Type 0
 ListingsAreLines = (what : What) (document : Document) (lines : List ℕ) → listed what document ≡ Ok lines → AreLinesToPrint lines
 

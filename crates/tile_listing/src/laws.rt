@@ -2,7 +2,7 @@
 
 ghost use Rattle.tile_listing.specs.Laws.{ListingsAreLines, NoListingIsOutOfMemory, SelectedFeatureIsThere, SelectedLayerIsThere};
 
-/// A listing is whole lines, none of which begins as a refusal does.
+/// A listing is whole lines, none of which is `ok` or begins as a refusal does.
 pub fn listings_are_lines()
     ensures { ListingsAreLines }
 {}
