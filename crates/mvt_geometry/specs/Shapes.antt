@@ -5,8 +5,6 @@ pub use Rattle.mvt_geometry.specs.declared.shapes.Point.{Point}
 pub use Rattle.mvt_geometry.specs.declared.shapes.Kind.{Kind}
 pub use Rattle.mvt_geometry.specs.declared.shapes.Kind.TheVariants.{Dots, Lines, Areas}
 
--- a `Point` is two whole numbers, x and y; a `Kind` is Dots, Lines or Areas
-
 -- the number of a kind: 1 for dots (POINT), 2 for lines (LINESTRING), 3 for areas (POLYGON) (tiles 4.3.4)
 abbrev pub kind_number : Kind → ℕ
 kind_number Dots = 1

@@ -10,7 +10,7 @@ use Rattle.mvt_messages.specs.Numbers.{numbers}
 use Rattle.mvt_renumber.specs.Renumbering.{renumber}
 use Rattle.mvt_messages.specs.Attributes.{pairs_in, pairs_of}
 use Rattle.mvt_messages.specs.Views.{content_in, contents, features, key_field, ordinals_of, plain_fields, value_field, value_in}
-use Rattle.mvt_meaning.specs.Decided.{decided_fields, is_renumbered, renumbered_fields}
+use Rattle.mvt_meaning.specs.Decided.{renumbered_fields}
 use Rattle.mvt_meaning.specs.Fields.{new_content, with_text}
 use Rattle.mvt_meaning.specs.Ordinals.{change_last, change_nth, count}
 use Rattle.mvt_meaning.specs.Selection.{is_feature}
@@ -78,14 +78,6 @@ abbrev pub unreadable : List (ℕ × (ℕ × Layer)) → List (ℕ × ℕ)
 unreadable found = flat_map (λ at. map (λ feature. (at.0, feature)) (ordinals_of (λ feature. not (is_some (pairs_of at.1.1 feature))) (features at.1.1))) found
 
 -- ---- tags fields that differ
-
--- each field of a feature with what is decided on its numbers of tags, in order
-abbrev pub with_decisions : List (Option ℕ) → List Field → List (List (Option ℕ) × Field)
-with_decisions decisions fields = decided_fields 2 decisions fields
-
--- a number of the field goes, or gets another value
-abbrev pub differs : List (Option ℕ) × Field → Bool
-differs at = is_renumbered 2 at
 
 -- the tags fields of a feature in which a number goes or gets another value, each with what is decided on its numbers
 abbrev pub differing : List (Option ℕ) → List Field → List (List (Option ℕ) × Field)

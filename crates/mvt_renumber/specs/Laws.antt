@@ -29,12 +29,12 @@ NoneIsNew decisions numbers = AllByRecursion (λ (p : Option ℕ × Number). IfS
 abbrev pub NoneIsGreater : List (Option ℕ) → List Number → Type 0
 NoneIsGreater decisions numbers = AllByRecursion (λ (p : Option ℕ × Number). IfSome p.0 (λ value. value ≤ p.1.value)) (zip decisions numbers)
 
--- the numbers that are read from a message are those of its fields (guide, Repeated Elements)
+-- where no chunk is bad, the numbers that are read from a message are those of its fields (guide, Repeated Elements)
 abbrev pub ReadOfFields : Type 0
 ReadOfFields = (number : ℕ) (fields : List Field) (found : List Number) → read_numbers number fields ≡ Some found → flat_map (field_numbers number) fields ≡ found
 
--- what is read after numbers were decided on, where each value is below 2 ^ 64, is those that are left, each with its
--- spelling
+-- where no chunk is bad and each value is below 2 ^ 64, what is read after numbers were decided on is those that are
+-- left, each with its spelling
 abbrev pub LeftIsRead : Type 0
 LeftIsRead = (number : ℕ) (decisions : List (Option ℕ)) (fields : List Field) (found : List Number) → AreShort decisions → read_numbers number fields ≡ Some found → read_numbers number (renumber number decisions fields) ≡ Some (renumbered decisions found)
 
@@ -61,7 +61,7 @@ OthersStay = (tag : Number) (width value : ℕ) (before following : List Number)
     → renumber (tag.value / 8) (keeping before ++ Some value ∷ []) (packed_field tag width (flat_map spelling before ++ (spelling old ++ flat_map spelling following)) ∷ [])
     ≡ packed_field tag width (flat_map spelling before ++ (spelling (with_number value old) ++ flat_map spelling following)) ∷ []
 
--- the numbers of fields that come after others are read after theirs (guide, Repeated Elements)
+-- where no chunk is bad, the numbers of fields that come after others are read after theirs (guide, Repeated Elements)
 abbrev pub AppendedIsRead : Type 0
 AppendedIsRead = (number : ℕ) (fields others : List Field) (found more : List Number) → read_numbers number fields ≡ Some found → read_numbers number others ≡ Some more → read_numbers number (fields ++ others) ≡ Some (found ++ more)
 

@@ -1,5 +1,6 @@
--- The numbers in the fields of one number replaced or left out, by a decision for each in order. All stay in their
--- fields, and all other bytes stay.
+-- The numbers in the fields of one number replaced or left out, by a decision for each in order. Those that are left
+-- stay in their fields, a field of which none is left goes, and the length of a packed field is that of its numbers; all
+-- other bytes stay.
 use Rattle.std.specs.Prelude.{ℕ, ◌==◌, Bool, true, not, List, [], ◌∷◌, ◌++◌, Option, length, drop, map, option_map, slice_index_or, if◌then◌else◌}
 use Rattle.std.specs.List.{filter_map, flat_map, list_any, zip}
 use Rattle.std.specs.Option.{option_map_or, unwrap_or}

@@ -2,14 +2,15 @@
 
 ghost use Rattle.mvt_renumber.specs.Laws.{AppendedIsRead, FieldNoLonger, KeptStays, LeftIsRead, LowerNoLonger, NoLonger, OthersStay, ReadOfFields, StaysValid};
 
-/// The numbers that are read from a message are those of its fields, one field after the other.
+/// Where no chunk is bad, the numbers that are read from a message are those of its fields, one field
+/// after the other.
 pub fn read_of_fields()
     ensures { ReadOfFields }
 {}
 
-/// If each value that is decided on is below 2^64, what is read from a message after its numbers were
-/// decided on is the numbers that are left, each in its old spelling if it keeps its value, and
-/// otherwise in the shortest.
+/// Where no chunk is bad, and each value that is decided on is below 2^64, what is read from a message
+/// after its numbers were decided on is the numbers that are left, each in its old spelling if it
+/// keeps its value, and otherwise in the shortest.
 pub fn left_is_read()
     ensures { LeftIsRead }
 {}
@@ -37,7 +38,8 @@ pub fn others_stay()
     ensures { OthersStay }
 {}
 
-/// Fields that are added at the end of a message add their numbers, after those that it has.
+/// Where no chunk is bad, fields that are added at the end of a message add their numbers, after those
+/// that it has.
 pub fn appended_is_read()
     ensures { AppendedIsRead }
 {}
