@@ -90,11 +90,11 @@ compare: all
 
 ## make install      the program and edit-tiles, manual pages, completions and documents under PREFIX; `make -f install.mk install` builds nothing
 install: all
-	$(MAKE) -f install.mk install PREFIX=$(PREFIX)
+	$(MAKE) -f install.mk install PREFIX="$(PREFIX)"
 
 ## make uninstall    removes what `make install` put there
 uninstall:
-	$(MAKE) -f install.mk uninstall PREFIX=$(PREFIX)
+	$(MAKE) -f install.mk uninstall PREFIX="$(PREFIX)"
 
 ## make deb          a Debian package of the program, in build/deb
 deb: all

@@ -39,15 +39,17 @@ LEADS_TO = ../share/tileshell/edit-tiles
 .PHONY: install uninstall sources
 
 install:
-	set -e; for file in $(PROGRAMS); do install -D -m 755 $${file%%:*} $(PLACE)/$${file#*:}; done
-	set -e; for file in $(FILES); do install -D -m 644 $${file%%:*} $(PLACE)/$${file#*:}; done
-	ln -sf $(LEADS_TO) $(PLACE)/$(LINK)
+	set -e; for file in $(PROGRAMS); do install -D -m 755 "$${file%%:*}" "$(PLACE)/$${file#*:}"; done
+	set -e; for file in $(FILES); do install -D -m 644 "$${file%%:*}" "$(PLACE)/$${file#*:}"; done
+	ln -sf $(LEADS_TO) "$(PLACE)/$(LINK)"
 
 uninstall:
-	rm -f $(PLACE)/$(LINK)
-	for file in $(PROGRAMS) $(FILES); do rm -f $(PLACE)/$${file#*:}; done
-	cd $(PLACE)/share && rmdir --ignore-fail-on-non-empty doc/tileshell/docs doc/tileshell tileshell
+	rm -f "$(PLACE)/$(LINK)"
+	for file in $(PROGRAMS) $(FILES); do rm -f "$(PLACE)/$${file#*:}"; done
+	set -e; for folder in doc/tileshell/docs doc/tileshell tileshell; do \
+		test ! -d "$(PLACE)/share/$$folder" || rmdir --ignore-fail-on-non-empty "$(PLACE)/share/$$folder"; \
+	done
 
 # The files here that are installed, a line for each.
 sources:
-	@for file in $(PROGRAMS) $(FILES); do echo $${file%%:*}; done
+	@for file in $(PROGRAMS) $(FILES); do echo "$${file%%:*}"; done
