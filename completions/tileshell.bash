@@ -2,16 +2,17 @@
 
 _tileshell()
 {
-    local word=${COMP_WORDS[COMP_CWORD]} before=${COMP_WORDS[COMP_CWORD - 1]} given option options=()
+    local word=${COMP_WORDS[COMP_CWORD]} before=${COMP_WORDS[COMP_CWORD - 1]} refused='-?*' given option options=()
 
-    # A word --script=FILE arrives as three words.
+    # A word --script=FILE arrives as three words. A file whose name begins with - is refused except there and after --.
     if [[ $word == = ]]; then
-        word=
+        word= refused=
     elif [[ $before == = ]]; then
-        before=${COMP_WORDS[COMP_CWORD - 2]}
+        before=${COMP_WORDS[COMP_CWORD - 2]} refused=
     fi
 
     given=" ${COMP_WORDS[*]:1:COMP_CWORD - 1} "
+    [[ $given != *' -- '* ]] || refused=
     COMPREPLY=()
     if [[ $before == --depth ]]; then
         return
@@ -22,7 +23,7 @@ _tileshell()
         mapfile -t COMPREPLY < <(compgen -W "${options[*]}" -- "$word")
     else
         compopt -o filenames
-        mapfile -t COMPREPLY < <(compgen -f -- "$word")
+        mapfile -t COMPREPLY < <(compgen -f -X "$refused" -- "$word")
     fi
 }
 
