@@ -8,7 +8,7 @@ from collections import Counter
 from dataclasses import dataclass, field
 
 WORD = re.compile(r'"(?:[^"\\]|\\.)*"|[^ \t\r]+')
-ESCAPE = re.compile(r'\\(x[0-9a-f]{2}|.)')
+ESCAPE = re.compile(r'\\(x[0-9a-fA-F]{2}|.)')
 
 # What stands in place of a geometry that is not read.
 UNREADABLE = "unreadable"
@@ -105,9 +105,13 @@ def heads_listed(tileshell, tile):
     return heads
 
 
+def has_name(head):
+    return head[2] != "-"
+
+
 def name_of(head):
     """The name of a layer by the words of its line."""
-    return "" if head[2] == "-" else text_of(head[2])
+    return text_of(head[2]) if has_name(head) else ""
 
 
 def extent_of(head):
