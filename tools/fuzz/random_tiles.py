@@ -1,5 +1,6 @@
 """Random tiles: whole ones with everything that is odd but allowed, pieces of a real one, and broken ones."""
 from dataclasses import replace
+from itertools import zip_longest
 from pathlib import Path
 
 import tiles
@@ -12,6 +13,9 @@ REAL = Path(__file__).resolve().parents[2] / "tests" / "data" / "states.pbf"
 # Few, so that layers, keys and values often share one. One of them makes a length need two bytes.
 TEXTS = [b"a", b"b", b"k", b"roads", b"name", b"", "\u00e9\u4e16".encode(), b'q"\\', b"\x00\x7f\n", b"\xff\x80", b"x" * 126]
 IDS = [0, 1, 2, 3, 17, 2**63, 2**64 - 1]
+# Ids of a few kinds, whose ids are equal in their last four bytes.
+ALIKE_IDS = [last | first << 32 for last in range(4) for first in range(12)]
+
 NUMBERS = [0, 1, 2, 5, 127, 128, 300, 2**31, 2**32 - 1, 2**32, 2**63, 2**64 - 1]
 
 # For fields of no meaning: numbers that a message has, and others.
@@ -88,8 +92,11 @@ def fields_of_numbers(draw, numbers, single, packed):
 
 def tags(draw, keys, values):
     """The numbers of a feature's tags, where the layer has `keys` keys and `values` values."""
-    count = min(draw.choice([0, 1, 1, 2, 3, 4]), keys if values else 0)
-    named = draw.choices(range(min(keys, 2)), k=count) if one_in(draw, 3) else draw.sample(range(keys), count)
+    if keys and values and one_in(draw, 30):
+        named = draw.choices(range(keys), k=draw.randint(33, 64))
+    else:
+        count = min(draw.choice([0, 1, 1, 2, 3, 4]), keys if values else 0)
+        named = draw.choices(range(min(keys, 2)), k=count) if one_in(draw, 3) else draw.sample(range(keys), count)
     found = [each for key in named for each in (key, draw.randrange(values))]
     if one_in(draw, 15):
         found.insert(draw.randint(0, len(found)), draw.choice(NUMBERS))
@@ -123,10 +130,10 @@ def times(draw):
     return draw.choice([1] * 10 + [0, 2])
 
 
-def feature(draw, keys, values):
+def feature(draw, keys, values, ids=IDS):
     kind = draw.randint(1, 3)
     shown = kind if not one_in(draw, 10) else draw.choice([0, 1, 2, 3, 4, 300])
-    groups = [[field(draw, ID, number(draw, draw.choice(IDS))) for _ in range(times(draw))],
+    groups = [[field(draw, ID, number(draw, draw.choice(ids))) for _ in range(times(draw))],
               fields_of_numbers(draw, tags(draw, keys, values), TAG, TAGS),
               [field(draw, KIND, number(draw, shown)) for _ in range(times(draw))],
               fields_of_numbers(draw, geometry(draw, kind), INTEGER, GEOMETRY) if not one_in(draw, 10) else []]
@@ -152,8 +159,27 @@ def layer(draw):
     return field(draw, LAYER, b"".join(mixed(draw, groups)))
 
 
+def in_turns(groups):
+    """The fields of the groups, one of each at a time."""
+    return [each for row in zip_longest(*groups) for each in row if each is not None]
+
+
+def large_layer(draw):
+    """A layer of about 32 features, the least number of items of which the program keeps where each kind stands."""
+    ids = draw.sample(ALIKE_IDS, draw.randint(28, 40))
+    keys, values = draw.choices(TEXTS, k=draw.choice([3, 20])), [value(draw) for _ in range(draw.choice([3, 20]))]
+    groups = [[field(draw, NAME, draw.choice(TEXTS))],
+              [feature(draw, len(keys), len(values), IDS if one_in(draw, 20) else [each]) for each in ids],
+              [field(draw, KEY, each) for each in keys], [field(draw, VALUE, each) for each in values]]
+    return field(draw, LAYER, b"".join(mixed(draw, [in_turns(groups)] if one_in(draw, 3) else groups)))
+
+
 def made_tile(draw):
     return b"".join(mixed(draw, [[layer(draw) for _ in range(draw.choice([0, *[1] * 6, *[2] * 5, 3]))]]))
+
+
+def large_tile(draw):
+    return b"".join(mixed(draw, [[large_layer(draw), *(layer(draw) for _ in range(draw.randrange(2)))]]))
 
 
 def deep_groups(draw):
@@ -211,8 +237,8 @@ def key_at(items, way):
 def random_tile(draw):
     """A tile, or bytes that are not one."""
     kind = draw.randrange(400)
-    tile = REAL.read_bytes() if kind == 0 else piece_of_real_tile(draw) if kind < 40 else made_tile(draw)
-    tile += deep_groups(draw) if kind == 50 else b""
+    tile = REAL.read_bytes() if kind == 0 else piece_of_real_tile(draw) if kind < 40 else (large_tile if kind < 56 else made_tile)(draw)
+    tile += deep_groups(draw) if kind == 56 else b""
     for _ in range(draw.choice([0, 0, 0, 1, 2])):
         tile = mutated_within(draw, tile)
     return mutated(draw, tile) if one_in(draw, 8) else tile
