@@ -14,8 +14,9 @@
 //!
 //! The document itself is that of `mvt_document`, whose public names and definitions are re-exported:
 //! `Rattle.mvt_wire.specs.Plain` is its Plain. The types are in `Rattle.mvt_wire.specs.declared`, by
-//! their public names, and `MAX_FILE` is in `Rattle.mvt_wire.specs.TheConstants`. What `mvt_document`
-//! has only for the reader and the writer, such as the definitions in its Parts, is not re-exported.
+//! their public names, and `MAX_FILE` is in `Rattle.mvt_wire.specs.TheConstants`. Left out are
+//! `change_fields_in`, `hash_of`, `to_zigzag` and `from_zigzag`, for which a crate names `mvt_document`,
+//! and what that has only for the reader and the writer, such as the definitions in its Parts.
 #![tactic(auto)]
 
 mod decode;
@@ -30,9 +31,9 @@ mod write;
 pub use faults::{ReadError, WriteError};
 pub use front::{FieldRef, field_at_front};
 pub use mvt_document::{
-    Body, BodyRef, Document, Feature, FeatureParts, Field, FieldParts, Item, Items, Layer,
-    LayerItem, MAX_FILE, MAX_GROUPS, Measured, Message, MessageTag, Tag, TileItem, Varint,
-    last_value, laws, least_width, message_size, put_number, read_varint, size_beside_part,
+    Body, BodyRef, Document, Feature, FeatureParts, Field, FieldParts, Item, Items, Kind, Layer,
+    LayerItem, MAX_FILE, MAX_GROUPS, Measured, Message, MessageTag, Put, Run, Runs, Tag, TileItem,
+    Varint, last_value, laws, least_width, message_size, put_number, read_varint, size_beside_part,
     size_of_all, sum_within, tags, value_in,
 };
 pub use read::read_document;
