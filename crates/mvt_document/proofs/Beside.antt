@@ -1,7 +1,8 @@
 -- The size of a list apart from one of its items, before it and after it.
-use Rattle.std.proofs.Common.{◌≡◌, ℕ, zero, suc, ◌+◌, ◌<◌, ◌≤◌, Option, Some, None, List, [], ◌∷◌, ◌++◌, length, length-append, take, drop, get_or, take-append-drop, sym, ap, ◌∙◌, arith}
+use Rattle.std.proofs.Common.{◌≡◌, ℕ, zero, suc, ◌+◌, ◌<◌, ◌≤◌, Option, Some, None, List, [], ◌∷◌, ◌++◌, length, length-append, take, drop, get_or, take-append-drop, refl, sym, ap, ◌∙◌, subst, arith}
 use Rattle.std.specs.List.{flat_map}
 use Rattle.std.specs.Option.{SomeIff, IfSome}
+use Rattle.std.specs.Prelude.{slice_set}
 use Rattle.std.proofs.lemmas.List.Concat.{flat_map-append}
 use Rattle.std.proofs.lemmas.List.{drop-drop}
 use Rattle.mvt_document.specs.Splicing.{moved, part, splice}
@@ -47,3 +48,13 @@ moved_size f from to items =
 pub kept_so : {T : Type 0} (f : T → List ℕ) (items now : List T) (sum : Option ℕ) → length (flat_map f now) ≡ length (flat_map f items) → IsKept f items sum → IsKept f now sum
 kept_so f items now None same kept = tt
 kept_so f items now (Some n) same kept = kept ∙ sym same
+
+-- what is beside an item stays when another takes its place
+beside_set : {T : Type 0} (f : T → List ℕ) (i : ℕ) (xs : List T) (y : T) → bytes_beside f i (slice_set xs i y) ≡ bytes_beside f i xs
+beside_set f i [] y = refl
+beside_set f zero (x ∷ xs) y = refl
+beside_set f (suc i) (x ∷ xs) y =
+    omega (arith, beside_set f i xs y, length-append (f x) (flat_map f (take i (slice_set xs i y))), length-append (f x) (flat_map f (take i xs)))
+
+pub beside_kept : {T : Type 0} (f : T → List ℕ) (i : ℕ) (o : Option ℕ) (xs ys : List T) (y : T) → ys ≡ slice_set xs i y → IfSome o (λ n. n ≡ bytes_beside f i xs) → IfSome o (λ n. n ≡ bytes_beside f i ys)
+beside_kept f i o xs ys y is = subst (λ m. IfSome o (λ n. n ≡ m)) (sym (ap (bytes_beside f i) is ∙ beside_set f i xs y))

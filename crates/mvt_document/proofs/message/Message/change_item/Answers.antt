@@ -1,14 +1,21 @@
-use Rattle.std.proofs.Common.{◌-◌, refl, sym, ◌∙◌, subst}
+use Rattle.std.proofs.Common.{◌-◌, refl, ap, sym, ◌∙◌, subst}
 use Rattle.std.proofs.lemmas.List.{get_or-set_same}
 use Rattle.std.proofs.lemmas.Option.{slice_get_within}
 use Rattle.std.specs.Prelude.{slice_set, IfSome, vec_len, vec_capacity}
 use Rattle.mvt_document.specs.Hashes.{AreHashes}
 use Rattle.mvt_document.specs.Kept.{IsKept}
 use Rattle.mvt_document.specs.Runs.{AreRunsOf}
+use Rattle.mvt_document.proofs.Beside.{beside_kept}
 use Rattle.mvt_document.proofs.Options.{if_known}
 use Rattle.mvt_document.proofs.Running.{runs_set}
 use Rattle.mvt_document.proofs.Placing.{read_there, set_changed}
 use Rattle.mvt_document.proofs.message.Message.change_item.Goals as goal
+
+pub size_with-size-requires : goal.size_with-size-requires
+size_with-size-requires g c =
+    let new = c.change-result.new.arg2 in
+    let same = c.as_slice.ensures.value ∙ ap (λ held. slice_set held.items c.args.index new) c.self.view_is in
+    beside_kept g.T.Measured.bytes c.args.index c.size_beside-others.result c.args.self.now.items c.as_slice.result.now new same c.size_beside-others.ensures
 
 pub invariant_of-self : goal.invariant_of-self
 invariant_of-self g c =

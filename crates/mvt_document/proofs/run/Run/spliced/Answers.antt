@@ -15,3 +15,9 @@ returns-in-None c = λ items come h inside p same.
     let i = c.args.index in
     let long = length-take-le i items inside in
     run_more _ _ _ (c.in-Some.ensures (take i items) come (c.front-front.ensures.items items h) (omega (arith, long, c.front-front.ensures.until, c.if-self-index.false)) p)
+
+pub returns-then-self-index : goal.returns-then-self-index
+returns-then-self-index c = λ items come h inside p same. run_more _ _ _ (run_more _ _ _ (c.front-front.ensures.items items h))
+
+pub returns-in_default : goal.returns-in_default
+returns-in_default c = λ items come h inside p same. run_more _ _ _ (run_more _ _ _ (c.front-front.ensures.items items h))
