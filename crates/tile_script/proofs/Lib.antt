@@ -1,5 +1,7 @@
+mod Alone
 pub mod Asking
 pub mod ParseRefusals
+mod Refused
 mod SetRefusals
 mod ShiftRefusals
 pub mod Silent

@@ -48,9 +48,13 @@ requests =
     ++ map (λ word. (word.0, alone_of word.1)) requests_alone
     ++ (codes "list", list_of) ∷ []
 
+-- the request for the command that begins with this word, with its arguments; or the first refusal
+abbrev pub edit_by : List ℕ → List Word → Result Request ParseError
+edit_by name arguments = command_by name arguments >>= λ command. Ok (OnHistory (Edit command))
+
 -- the request that begins with this word, with its arguments; or the first refusal
 unfoldable pub request_by : List ℕ → List Word → Result Request ParseError
-request_by name arguments = read_by requests (command_by name arguments >>= λ command. Ok (OnHistory (Edit command))) name arguments
+request_by name arguments = read_by requests (edit_by name arguments) name arguments
 
 -- what the words of a line ask for, or the first refusal: the first word is bare and says which request it is
 unfoldable pub asked_by : List Word → Result Request ParseError

@@ -1,9 +1,12 @@
 //! The requests that words ask for, each with its arguments.
 
-ghost use Rattle.std.specs.Prelude.{◌≤◌, length, map};
+ghost use Rattle.std.specs.Prelude.{◌≡◌, ◌≤◌, drop, length, map, option_map};
+ghost use Rattle.std.specs.Map.{lookup};
 ghost use Rattle.std.specs.Result.{IsErrOf};
+ghost use Rattle.std.specs.Str.{bytes_eq};
 ghost use Rattle.tile_arguments.specs.RequestStands.{request_of};
-ghost use Rattle.tile_script.specs.Line.{alone_of, name_of, list_of, request_by, asked_by};
+ghost use Rattle.tile_script.specs.Commands.{read_by};
+ghost use Rattle.tile_script.specs.Line.{alone_of, name_of, list_of, requests, requests_alone, edit_by, request_by, asked_by};
 ghost use Rattle.tile_lines.specs.Answers.{Gives, GivesAlways};
 ghost use Rattle.tile_lines.specs.WordStands.{word_of};
 
@@ -26,7 +29,7 @@ pub(crate) fn request(alloc: Global, words: &[Word<'_>]) -> Result<Request, Pars
 }
 
 /// The request that begins with this word, with its arguments.
-#[tactic(auto, unfolding(crate::specs::Line::request_by), using(crate::proofs::ParseRefusals::never_alone))]
+#[tactic(auto, unfolding(crate::specs::Line::request_by))]
 fn named(alloc: Global, name: &[u8], arguments: &[Word<'_>]) -> Result<Request, ParseError>
     ensures answer { Gives request_of result (request_by name.now (map word_of arguments.now)) }
     ensures no_memory { IsErrOf result ParseError.NoMemory → 1 ≤ length arguments.now }
@@ -37,26 +40,56 @@ fn named(alloc: Global, name: &[u8], arguments: &[Word<'_>]) -> Result<Request, 
         Ok(Request::Unmark(mark_name(alloc, arguments)?))
     } else if is(name, b"back") {
         Ok(Request::Back(mark_name(alloc, arguments)?))
-    } else if is(name, b"undo") {
-        alone(Request::Undo, arguments)
-    } else if is(name, b"redo") {
-        alone(Request::Redo, arguments)
-    } else if is(name, b"marks") {
-        alone(Request::Marks, arguments)
-    } else if is(name, b"history") {
-        alone(Request::History, arguments)
-    } else if is(name, b"begin") {
-        alone(Request::Begin, arguments)
-    } else if is(name, b"end") {
-        alone(Request::End, arguments)
-    } else if is(name, b"cancel") {
-        alone(Request::Cancel, arguments)
-    } else if is(name, b"size") {
-        alone(Request::Size, arguments)
-    } else if is(name, b"list") {
+    } else {
+        other_request(alloc, name, arguments)
+    }
+}
+
+/// The same for the requests after those on marks.
+fn other_request(alloc: Global, name: &[u8], arguments: &[Word<'_>]) -> Result<Request, ParseError>
+    ensures answer { Gives request_of result (read_by (drop 3 requests) (edit_by name.now (map word_of arguments.now)) name.now (map word_of arguments.now)) }
+    ensures no_memory { IsErrOf result ParseError.NoMemory → 1 ≤ length arguments.now }
+{
+    match lone_request(name) {
+        Some(request) => alone(request, arguments),
+        None => list_or_edit(alloc, name, arguments),
+    }
+}
+
+/// The same for the requests after those of a single word.
+fn list_or_edit(alloc: Global, name: &[u8], arguments: &[Word<'_>]) -> Result<Request, ParseError>
+    ensures answer { Gives request_of result (read_by (drop 11 requests) (edit_by name.now (map word_of arguments.now)) name.now (map word_of arguments.now)) }
+    ensures no_memory { IsErrOf result ParseError.NoMemory → 1 ≤ length arguments.now }
+{
+    if is(name, b"list") {
         list(alloc, arguments)
     } else {
         Ok(Request::Edit(command(alloc, name, arguments)?))
+    }
+}
+
+/// The request that this word is by itself.
+fn lone_request(name: &[u8]) -> Option<Request>
+    ensures { option_map request_of result ≡ lookup (bytes_eq name.now) requests_alone }
+{
+    if is(name, b"undo") {
+        Some(Request::Undo)
+    } else if is(name, b"redo") {
+        Some(Request::Redo)
+    } else if is(name, b"marks") {
+        Some(Request::Marks)
+    } else if is(name, b"history") {
+        Some(Request::History)
+    } else if is(name, b"begin") {
+        Some(Request::Begin)
+    } else if is(name, b"end") {
+        Some(Request::End)
+    } else if is(name, b"cancel") {
+        Some(Request::Cancel)
+    } else if is(name, b"size") {
+        Some(Request::Size)
+    } else {
+        None
     }
 }
 

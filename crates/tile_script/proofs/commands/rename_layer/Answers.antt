@@ -1,0 +1,21 @@
+use Rattle.std.proofs.Common.{map, arith}
+use Rattle.mvt_meaning.specs.CommandStands.{command_of}
+use Rattle.tile_lines.specs.Answers.{Gives}
+use Rattle.tile_lines.specs.WordStands.{word_of}
+use Rattle.tile_script.specs.Commands.{rename_layer_of}
+use Rattle.tile_script.proofs.Refused.{of_two, of_two_first, first_refused, second_refused}
+use Rattle.tile_script.proofs.commands.rename_layer.Goals as goal
+
+pub returns-in_err-layer-clause-answer : goal.returns-in_err-layer-clause-answer
+unfolding rename_layer_of
+returns-in_err-layer-clause-answer c =
+    let answer = c.from_residual.result in
+    of_two_first (λ words. Gives command_of answer (rename_layer_of (map word_of words))) c.args.arguments.now _ (omega arith) (omega arith)
+    (first_refused command_of answer c.in_err-layer.field-0.0 _ _ c.from_residual.ensures.1 c.in_err-layer.ensures.answer)
+
+pub returns-in_err-name-clause-answer : goal.returns-in_err-name-clause-answer
+unfolding rename_layer_of
+returns-in_err-name-clause-answer c =
+    let answer = c.from_residual-in_err-name.result in
+    of_two (λ words. Gives command_of answer (rename_layer_of (map word_of words))) c.args.arguments.now _ _ (omega arith) (omega arith)
+    (second_refused command_of answer c.in_err-name.field-0.0 _ _ _ _ c.from_residual-in_err-name.ensures.1 c.in_ok-layer.ensures.answer c.in_err-name.ensures.answer)
