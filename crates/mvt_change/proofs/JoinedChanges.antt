@@ -33,6 +33,11 @@ pub joined_from_last : (changes : List HeldChange) (change : HeldChange) → joi
 joined_from_last changes change =
     rw (map-append, reverse-append (map change_of changes) (change_of change ∷ []))
 
+-- the last one, taken out and put back, with the same steps
+pub put_back : (changes rest made : List HeldChange) (last new : HeldChange) → changes ≡ rest ++ last ∷ [] → made ≡ rest ++ new ∷ [] → change_of new ≡ change_of last → map change_of made ≡ map change_of changes
+put_back changes rest made last new were are same =
+    ap (map change_of) are ∙ map-append change_of rest (new ∷ []) ∙ ap (λ change. map change_of rest ++ change ∷ []) same ∙ sym (ap (map change_of) were ∙ map-append change_of rest (last ∷ []))
+
 pub length_joined_last : (changes : List HeldChange) (change : HeldChange) → length (joined (map change_of (changes ++ change ∷ []))) ≡ length (joined (map change_of changes)) + length change.steps.items
 length_joined_last changes change =
     rw (joined_last changes change, length-append, length_of_change change)

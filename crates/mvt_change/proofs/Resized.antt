@@ -1,11 +1,11 @@
 -- How many bytes a list takes if a part of it is exchanged, an item is changed, or an item moves; and a message around
 -- it.
-use Rattle.std.proofs.Common.{◌≡◌, ℕ, zero, suc, ◌+◌, ◌≤◌, max, not, ltb, Option, Some, None, is_some, List, [], ◌∷◌, ◌++◌, length, length-append, slice_get, take, map, refl, sym, ap, ◌∙◌, subst, arith}
+use Rattle.std.proofs.Common.{◌≡◌, ℕ, zero, suc, ◌+◌, ◌<◌, ◌≤◌, max, not, ltb, Option, Some, None, is_some, List, [], ◌∷◌, ◌++◌, length, length-append, get_or, option_map, slice_get, take, map, refl, sym, ap, ◌∙◌, subst, arith}
 use Rattle.std.specs.List.{flat_map}
 use Rattle.std.specs.Option.{IfSome, IsSome, IsSomeAnd, SomeIff, option_and_then}
 use Rattle.std.proofs.lemmas.Bool.Decides.{nat_tests}
 use Rattle.std.proofs.lemmas.List.Folds.{flat_map-map}
-use Rattle.std.proofs.lemmas.Option.{same_Some}
+use Rattle.std.proofs.lemmas.Option.{same_Some, slice_get-map, slice_get_read}
 use Rattle.mvt_document.specs.Plain.{Field, Feature, LayerItem, OfFeature, PlainInLayer, Layer, TileItem, OfLayer, PlainInTile, Document}
 use Rattle.mvt_document.specs.Wire.{spell, minimal_width, delimited, field_bytes, layer_item_bytes, tile_item_bytes, bytes_of}
 use Rattle.mvt_document.specs.Kept.{bytes_beside}
@@ -107,6 +107,31 @@ some_found found Q some = where_some found Q IsSome (λ x holds. refl) some
 pub some_around : {A B : Type 0} (deeper : A → Option B) (found : Option A) → IsSome (option_and_then deeper found) → IsSome found
 some_around deeper None some = some
 some_around deeper (Some x) some = refl
+
+-- ---- the item that is read, where there is a list in it
+
+there_in : {A B C : Type 0} (inside : B → Option C) (g : A → B) (items : List A) (at : ℕ) → IsSome (option_and_then inside (slice_get (map g items) at)) → at < length items
+there_in inside g [] at some = absurd cc
+there_in inside g (x ∷ items) zero some = omega arith
+there_in inside g (x ∷ items) (suc at) some = omega (arith, there_in inside g items at some)
+
+none_there : {C : Type 0} (found : Option C) → found ≡ None → IsSome found → ⊥
+none_there None none some = cc
+none_there (Some x) none some = cc
+
+module _ {A B C : Type 0} (inside : B → Option C) (g : A → B) (items shown : List A) (at : ℕ) (all : shown ≡ items) (some : IsSome (option_and_then inside (slice_get (map g items) at))) where
+  pub is_there : at < length shown
+  is_there = subst (λ xs. at < length xs) (sym all) (there_in inside g items at some)
+
+  pub is_read : (x y : A) → x ≡ get_or shown at x → x ≡ y → slice_get (map g items) at ≡ Some (g y)
+  is_read x y read is =
+      let found : slice_get items at ≡ Some x = subst (λ xs. slice_get xs at ≡ Some x) all (slice_get_read shown (length shown) at x refl is_there read) in
+      slice_get-map g items at ∙ ap (option_map g) found ∙ ap (λ z. Some (g z)) is
+
+  pub is_no_other : (x y : A) → x ≡ get_or shown at x → x ≡ y → inside (g y) ≡ None → ⊥
+  is_no_other x y read is none =
+      let here : IsSome (inside (g y)) = subst (λ o. IsSome (option_and_then inside o)) (is_read x y read is) some in
+      none_there (inside (g y)) none here
 
 -- ---- a layer and a feature with other items
 

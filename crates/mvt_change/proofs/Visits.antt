@@ -1,5 +1,5 @@
 -- The items of a layer of a document, and steps on its features, carried out in one visit to the layer.
-use Rattle.std.proofs.Common.{◌≡◌, ℕ, zero, suc, ◌+◌, ◌-◌, ◌<◌, ◌≤◌, ◌==◌, ◌≢◌, inl, inr, ⊎_elim, eq-or-lt_of_le, Bool, false, nat_eq, true≢false, IsTrue, is_some, List, [], ◌∷◌, ◌++◌, length, map, reverse, take, drop, get_or, set, slice_index_or, true, Option, Some, None, option_map, refl, sym, ap, ◌∙◌, subst, arith}
+use Rattle.std.proofs.Common.{◌≡◌, ℕ, zero, suc, ◌+◌, ◌-◌, ◌<◌, ◌≤◌, ◌==◌, ◌≢◌, inl, inr, ⊎_elim, eq-or-lt_of_le, Bool, false, nat_eq, true≢false, IsTrue, is_some, nat_lt, List, [], ◌∷◌, ◌++◌, length, map, reverse, take, drop, get_or, set, slice_index_or, true, Option, Some, None, option_map, refl, sym, ap, ◌∙◌, subst, arith}
 use Rattle.std.specs.Prelude.{Result, Ok, Err, is_ok, if◌then◌else◌, slice_get, IfOk, OnErr, OnOk}
 use Rattle.std.specs.List.{AllByRecursion}
 use Rattle.std.specs.Cmp.{unsigned_Decides}
@@ -20,7 +20,9 @@ use Rattle.mvt_change.specs.HeldChanges.{ExchangesFirst, FindsAction, HasHeldPar
 use Rattle.mvt_change.specs.Underway.{Advances, AdvancesIn, FindsFields, FitInLayer, InEach, IsInFeatureOf, IsUnderway, IsVisit, item_at, item_in, layer_in, steps_made}
 use Rattle.mvt_change.specs.Runs.{IsOn}
 use Rattle.std.proofs.lemmas.Grind.{drop_more_same}
+use Rattle.std.proofs.lemmas.Bool.Decides.{nat_tests}
 use Rattle.std.proofs.lemmas.List.{drop-set-lt}
+use Rattle.std.proofs.lemmas.Option.{slice_get_read}
 use Rattle.mvt_document.proofs.Options.{where_some}
 use Rattle.mvt_change.proofs.HeldLenses.{list_part}
 use Rattle.mvt_change.proofs.Actions.{fits_finds}
@@ -133,6 +135,22 @@ same_found found other same = absurd cc
 found_itself : (found : Option ℕ) → option_eq nat_eq found found ≡ true
 found_itself None = refl
 found_itself (Some item) = (unsigned_Decides item item).1 refl
+
+-- which feature of the layer the step that is read is on
+pub item_read : (layer : ℕ) (steps : List Step) (at : ℕ) (step : Step) (found : Option ℕ) → true ≡ nat_lt at (length steps) → step ≡ get_or steps at step → item_in layer step ≡ found → found ≡ item_at layer steps at
+item_read layer steps at step found inside read is =
+    let less : at < length steps = grind (arith, nat_tests) in
+    sym (ap (option_and_then (item_in layer)) (slice_get_read steps (length steps) at step refl less read) ∙ is)
+
+pub item_here : (layer other item index taken : ℕ) (put : Held Field) (step : Step) → step ≡ InFeature other item index taken put → other ≡ layer → item_in layer step ≡ Some item
+item_here layer other item index taken put step is same =
+    let same : (other == layer) ≡ true = grind (arith, nat_tests) in
+    rw (is, same) refl
+
+pub item_elsewhere : (layer other item index taken : ℕ) (put : Held Field) (step : Step) → step ≡ InFeature other item index taken put → (other ≡ layer → ⊥) → item_in layer step ≡ None
+item_elsewhere layer other item index taken put step is apart =
+    let apart : (other == layer) ≡ false = grind (arith, nat_tests) in
+    rw (is, apart) refl
 
 pub found_apart : (found other : Option ℕ) → option_eq nat_eq found other ≡ false → found ≢ other
 found_apart found other apart same = true≢false (sym (found_itself found) ∙ ap (option_eq nat_eq found) same ∙ apart)

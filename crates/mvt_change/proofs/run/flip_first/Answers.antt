@@ -15,3 +15,6 @@ returns-in-Ok-clause-run c = λ place. run_ends c.in-Ok.made (place_of c.in-Some
 
 pub returns-in-Ok-clause-visit : goal.returns-in-Ok-clause-visit
 returns-in-Ok-clause-visit c = λ layer first apart. absurd (apart (same_feature layer (place_of c.in-Some.place) c.args.steps.now c.in-Some.ensures.two c.in-Some.ensures.some first))
+
+pub returns-in-Err-clause-made : goal.returns-in-Err-clause-made
+returns-in-Err-clause-made c = c.in-Err.ensures.made
