@@ -31,6 +31,13 @@ use Rattle.tile_course.specs.Course.{IsOpened, IsFaulty, IsWritten, CarriesThrou
 use Rattle.mvt_history_steps.specs.History.{History}
 use Rattle.tile_course.specs.Run.{Progress, silent, accepted, refused_for, is_over, MayFollow, Walk}
 use Rattle.mvt_history_steps.specs.Session.{StandsFor}
+use Rattle.mvt_history_steps.specs.Standing.{Standing}
+use Rattle.mvt_history_steps.specs.declared.error.HistoryError.{HistoryError}
+use Rattle.mvt_meaning.specs.Requests.{Edit}
+use Rattle.tile_arguments.specs.Request.{Request, OnHistory}
+use Rattle.tile_course.specs.Answering.{carried_out}
+use Rattle.tile_course.specs.Answers.{IsAnswered}
+use Rattle.tile_course.specs.declared.refused.Refused.TheVariants as refused
 
 -- ---- the tile
 
@@ -61,6 +68,19 @@ stop_for read_errors.NoMemory = unopened.NoMemory
 -- the devices at one moment, with the tile in this state
 abbrev pub devices_with : {A B C : Type 0} → Seen → SourceMembers A → SinkMembers B → SinkMembers C → A → B → C → Devices
 devices_with tile a b c script replies out = record { tile = tile; script = source_at a script; replies = sink_at b replies; out = sink_at c out }
+
+-- ---- a request
+
+-- the request changes the history, and is not a command
+abbrev pub ChangesHistory : Request → Type 0
+ChangesHistory (OnHistory (Edit command)) = ⊥
+ChangesHistory (OnHistory request) = Unit {0}
+ChangesHistory request = ⊥
+
+-- such a request is accepted, and the session holds the history after it; or it is refused or stopped
+abbrev pub AnswersChange : Request → History → Result (Unit {0}) HistoryError → Standing → Type 0
+AnswersChange request history (Ok done) new = (after : History) × (carried_out request history ≡ Ok (record { lines = []; history = after })) × StandsFor new after
+AnswersChange request history (Err error) new = IsAnswered request history (Err (refused.History error)) new
 
 -- ---- a line
 

@@ -19,7 +19,7 @@ returns-in_default-clause-pieces g c strict document depth at =
 pub returns-then-count-eq0-clause-pieces : goal.returns-then-count-eq0-clause-pieces
 returns-then-count-eq0-clause-pieces g c strict document depth at =
     let so_far = c.loop-count.invariant.so_far strict document depth at in
-    let some : 0 < length c.read_some.new.buffer = search rules in
+    let some : 0 < length c.read_some.new.buffer = omega (arith, length-take {A = ℕ}, c.min-size.ensures, c.read_some.auto.buffer) in
     ends_reading strict (at_first document depth) _ _ _ _ _ _ _ _ _ so_far c.if-count-eq0.true some c.in-Ok.ensures.reads
 
 pub returns-in_err-carry_out_lines-clause-pieces : goal.returns-in_err-carry_out_lines-clause-pieces
