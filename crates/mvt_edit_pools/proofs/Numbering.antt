@@ -1,6 +1,6 @@
 -- New ordinals by the marks of entries.
-use Rattle.std.proofs.Common.{◌≡◌, ℕ, zero, suc, ◌+◌, ◌^◌, ◌<◌, Bool, List, [], ◌∷◌, ◌++◌, Some, slice_get, length, take, drop, min, get_or, cond, append_assoc, refl, sym, ap, ◌∙◌, arith}
-use Rattle.std.proofs.lemmas.List.{drop_more, take_all}
+use Rattle.std.proofs.Common.{◌≡◌, ℕ, zero, suc, ◌+◌, ◌^◌, ◌<◌, ◌≤◌, Bool, true, false, List, [], ◌∷◌, ◌++◌, Some, slice_get, length, take, drop, min, get_or, cond, append_assoc, append-nil, refl, sym, ap, ◌∙◌, arith}
+use Rattle.std.proofs.lemmas.List.{drop_all, drop_more, take_all}
 use Rattle.mvt_meaning.specs.Compaction.{new_ordinal}
 use Rattle.mvt_meaning.proofs.Compaction.{next_ordinal}
 use Rattle.mvt_edit_pools.specs.Marks.{numbered_from, ordinals_by, stays_from}
@@ -36,7 +36,22 @@ first_named (stays ∷ marks) (suc most) =
     ap (λ n. take n (stays ∷ marks)) one ∙ ap (λ rest. stays ∷ rest) (first_named marks most)
 
 -- one more entry
-pub numbered_more : (front : List ℕ) (next : ℕ) (marks : List Bool) (index : ℕ) (d : Bool) → index < length marks → (front ++ next ∷ []) ++ numbered_from (next + cond (get_or marks index d) 1 0) (drop (index + 1) marks) ≡ front ++ numbered_from next (drop index marks)
-numbered_more front next marks index d within =
-    append_assoc front (next ∷ []) (numbered_from (next + cond (get_or marks index d) 1 0) (drop (index + 1) marks))
-    ∙ ap (λ rest. front ++ numbered_from next rest) (sym (drop_more marks index d within))
+pub numbered_more : (marks : List Bool) (index : ℕ) (d : Bool) (front after all : List ℕ) (next following : ℕ) → index < length marks
+    → front ++ numbered_from next (drop index marks) ≡ all → after ≡ front ++ next ∷ [] → following ≡ next + cond (get_or marks index d) 1 0 → after ++ numbered_from following (drop (index + 1) marks) ≡ all
+numbered_more marks index d front after all next following inside so_far put counts =
+    let rest = drop (index + 1) marks in
+    ap (λ list. list ++ numbered_from following rest) put
+    ∙ append_assoc front (next ∷ []) (numbered_from following rest)
+    ∙ ap (λ n. front ++ next ∷ numbered_from n rest) counts
+    ∙ ap (λ list. front ++ numbered_from next list) (sym (drop_more marks index d inside))
+    ∙ so_far
+
+-- no more than one more
+pub one_at_most : (stays : Bool) (next following index : ℕ) → next ≤ index → following ≡ next + cond stays 1 0 → following ≤ index + 1
+one_at_most true next following index few counts = omega (arith, few, counts)
+one_at_most false next following index few counts = omega (arith, few, counts)
+
+-- no entry is left
+pub numbered_all : (marks : List Bool) (index : ℕ) (front all : List ℕ) (next : ℕ) → length marks ≤ index → front ++ numbered_from next (drop index marks) ≡ all → front ≡ all
+numbered_all marks index front all next past so_far =
+    sym (append-nil front) ∙ ap (λ list. front ++ numbered_from next list) (sym (drop_all index marks past)) ∙ so_far

@@ -1,8 +1,9 @@
 -- What is decided on the tags of a feature by new ordinals: it is what the meaning decides; if no pair changes there is
--- no step.
-use Rattle.std.proofs.Common.{◌≡◌, ℕ, zero, suc, ◌<◌, ◌^◌, Bool, true, false, ◌&&◌, Option, Some, None, List, [], ◌∷◌, ◌++◌, length, append-nil, map, option_map, slice_get, refl, sym, ap, ◌∙◌, inl, inr, arith}
+-- no step. And the decisions on pairs, one pair after the other.
+use Rattle.std.proofs.Common.{◌≡◌, ℕ, zero, suc, ◌+◌, ◌<◌, ◌≤◌, ◌^◌, Bool, true, false, ◌&&◌, cond, Option, Some, None, List, [], ◌∷◌, ◌++◌, length, append_assoc, append-nil, drop, get_or, map, option_map, slice_get, refl, sym, ap, ◌∙◌, inl, inr, arith}
 use Rattle.std.specs.Prelude.{nat_lt}
 use Rattle.std.proofs.lemmas.Bool.{and_parts, cases_Bool, eqb-true, ltb-true}
+use Rattle.std.proofs.lemmas.List.{drop_all, drop_more}
 use Rattle.std.proofs.lemmas.Simd.{map-map}
 use Rattle.std.specs.List.{flat_map, list_all}
 use Rattle.std.specs.Option.{option_map_or, unwrap_or}
@@ -20,7 +21,10 @@ use Rattle.mvt_meaning.proofs.Removals.{flat, head_same, make_pairs}
 use Rattle.mvt_edit_steps.specs.Decided.{counted_by, decided_by, field_fates, is_any_gone}
 use Rattle.mvt_edit_steps.specs.EachFeature.{feature_steps, layer_steps}
 use Rattle.mvt_edit_steps.specs.Fates.{splices_from}
+use Rattle.mvt_layers.specs.Seen.{pair_seen}
+use Rattle.mvt_layers.specs.declared.attributes.Pair.{Pair}
 use Rattle.mvt_edit_steps.proofs.Carrying.{in_feature_at}
+use Rattle.mvt_edit_steps.proofs.Deciding.{counted_first}
 use Rattle.mvt_edit_steps.proofs.StepsPassed.{no_splices}
 use Rattle.mvt_edit_pools.specs.Marks.{keeps_ordinal, ordinals_by, ordinals_in, pair_repointed, pairs_at, pairs_repointed, stays_from}
 use Rattle.mvt_edit_pools.specs.Pools.{ordinal_fates}
@@ -148,3 +152,36 @@ module _ (key_ordinals value_ordinals : List ℕ) where
 pub steps_either : {A : Type 0} (changed : ℕ) (front mid steps : List A) → (changed ≡ 0 → mid ≡ front) → (0 < changed → mid ≡ front ++ steps) → (changed ≡ 0 → steps ≡ []) → mid ≡ front ++ steps
 steps_either zero front mid steps same more none = same refl ∙ sym (append-nil front) ∙ ap (λ list. front ++ list) (sym (none refl))
 steps_either (suc n) front mid steps same more none = more (omega arith)
+
+-- ---- one pair after the other
+
+module _ (said : ℕ × ℕ → Option ℕ × Option ℕ × Bool) (pairs : List Pair) (index : ℕ) where
+  module _ (d : Pair) (inside : index < length pairs) where
+    abbrev next : ℕ × ℕ
+    next = pair_seen (get_or pairs index d)
+
+    pub decided_further : (before after all : List (Option ℕ)) → before ++ decided_by said (map pair_seen (drop index pairs)) ≡ all
+        → after ≡ before ++ decided_by said (next ∷ []) → after ++ decided_by said (map pair_seen (drop (index + 1) pairs)) ≡ all
+    decided_further before after all so_far more =
+        let rest = map pair_seen (drop (index + 1) pairs) in
+        ap (λ list. list ++ decided_by said rest) more
+        ∙ append_assoc before (decided_by said (next ∷ [])) (decided_by said rest)
+        ∙ ap (λ list. before ++ decided_by said (map pair_seen list)) (sym (drop_more pairs index d inside))
+        ∙ so_far
+
+    pub counted_further : (changed more all : ℕ) → changed + counted_by said (map pair_seen (drop index pairs)) ≡ all
+        → more ≡ cond (said next).2 1 0 → changed + more + counted_by said (map pair_seen (drop (index + 1) pairs)) ≡ all
+    counted_further changed more all so_far counts =
+        let rest = map pair_seen (drop (index + 1) pairs) in
+        let first = ap (λ list. counted_by said (map pair_seen list)) (drop_more pairs index d inside) ∙ counted_first (λ (pair : ℕ × ℕ). (said pair).2) next rest in
+        omega (arith, so_far, first, counts)
+
+  -- none is left
+  pub decided_all : (decisions all : List (Option ℕ)) → length pairs ≤ index → decisions ++ decided_by said (map pair_seen (drop index pairs)) ≡ all → decisions ≡ all
+  decided_all decisions all past so_far =
+      sym (append-nil decisions) ∙ ap (λ list. decisions ++ decided_by said (map pair_seen list)) (sym (drop_all index pairs past)) ∙ so_far
+
+  pub counted_all : (changed all : ℕ) → length pairs ≤ index → changed + counted_by said (map pair_seen (drop index pairs)) ≡ all → changed ≡ all
+  counted_all changed all past so_far =
+      let none = ap (λ list. counted_by said (map pair_seen list)) (drop_all index pairs past) in
+      omega (arith, so_far, none)

@@ -33,3 +33,9 @@ returns c =
     let key = at.seen key_field _ c.is_entry_at.ensures ∙ c.if-is_entry_at.false in
     let value = at.seen value_field _ c.is_entry_at-2.ensures ∙ c.if-is_entry_at-2.false in
     at.first keys values ∙ goes_neither keys values (layer_item_of at.item) following key value
+
+pub is_entry_at-requires-clause-run : goal.is_entry_at-requires-clause-run
+is_entry_at-requires-clause-run c = c.requires.runs.keys
+
+pub is_entry_at-requires-2-clause-run : goal.is_entry_at-requires-2-clause-run
+is_entry_at-requires-2-clause-run c = c.requires.runs.values
