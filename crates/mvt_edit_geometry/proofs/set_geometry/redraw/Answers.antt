@@ -17,3 +17,6 @@ returns-clause-kind c =
 
 pub returns-clause-one : goal.returns-clause-one
 returns-clause-one c = omega (arith, length-map c.in_ok-kind.kind.put.items (λ field. is_numbered 24 (field_of field)), ap (λ list. length list) c.in_ok-kind.ensures.one)
+
+pub returns-clause-field : goal.returns-clause-field
+returns-clause-field c = cc c.in_ok-bytes.ensures.bytes
