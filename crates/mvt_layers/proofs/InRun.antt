@@ -68,6 +68,10 @@ last_got o (x ∷ (y ∷ xs)) (suc k) long = last_got (Some x) (y ∷ xs) k (ome
 pub run_within : {X : Type 0} (f : X → Bool) (run : Run) (items : List X) → IsRunOf f run items → run.first + run.count ≤ length items
 run_within f run items h = omega (arith, length-map items f, ap length h.is, length-append (one_run run.first run.count h.following) h.rest, run_length run.first run.count h.following)
 
+-- so is each item of it
+pub inside_run : {X : Type 0} (f : X → Bool) (run : Run) (items : List X) (position end : ℕ) → IsRunOf f run items → end ≤ run.first + run.count → position < end → position < length items
+inside_run f run items position end h known before = omega (arith, run_within f run items h, known, before)
+
 pub until_within : {X : Type 0} (f : X → Bool) (run : Run) (items : List X) → IsRunOf f run items → run.until ≤ length items
 until_within f run items h = omega (arith, h.until, length-map items f, ap length h.is, length-append (one_run run.first run.count h.following) h.rest, run_length run.first run.count h.following)
 

@@ -3,3 +3,4 @@ pub mod Yielded
 pub mod Placing
 pub mod InRun
 pub mod ByHash
+mod Equals

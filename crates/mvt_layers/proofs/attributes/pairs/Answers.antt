@@ -1,4 +1,4 @@
-use Rattle.std.proofs.Common.{◌≡◌, ℕ, List, [], ◌∷◌, ◌++◌, Ok, map, option_map, slice_get, refl, subst, sym, ap, ◌∙◌}
+use Rattle.std.proofs.Common.{◌≡◌, ℕ, List, [], ◌∷◌, ◌++◌, Result, Ok, Err, map, option_map, slice_get, refl, subst, sym, ap, ◌∙◌}
 use Rattle.std.specs.Prelude.{IsOk, IsSomeAnd}
 use Rattle.std.proofs.lemmas.List.{map_push}
 use Rattle.mvt_messages.specs.Numbers.{and_more}
@@ -36,3 +36,12 @@ loop-tags-preserved c =
           ∙ c.loop-tags.invariant.made;
       first = λ is. c.loop-tags.invariant.first (subst (λ tags. IsSomeAnd (slice_get tags 0) IsOk) (sym front) refl);
     }
+
+no_error : {A E : Type 0} (x : A) (e : E) → ◌≡◌ {A = Result A E} (Ok x) (Err e) → ⊥
+no_error x e is = cc
+
+pub returns-clause-bad_tags : goal.returns-clause-bad_tags
+returns-clause-bad_tags c = λ bad. absurd (no_error _ _ bad)
+
+pub returns-clause-no_memory : goal.returns-clause-no_memory
+returns-clause-no_memory c = λ bad. absurd (no_error _ _ bad)

@@ -42,3 +42,9 @@ returns c =
     let past = found ∙ sym (run_past layer_item_of (entry_in number) (is_entry number) (is_found_entry number) c.args.entries c.args.items.now c.args.ordinal c.requires.entries c.if-ordinal-entries.false) in
     let whole = ap (option_map (λ f. f.1.1)) past ∙ sym (slice_get-map (λ f. f.1.1) (found_in (entry_in number) items) c.args.ordinal) ∙ ap (λ xs. slice_get xs c.args.ordinal) (found_contents number items) in
     rw c.in_ok-found.was at whole
+
+pub overflow_add-entries : goal.overflow_add-entries
+overflow_add-entries c = omega (arith, run_within (is_entry c.args.number) c.args.entries c.args.items.now c.requires.entries, c.if-ordinal-entries.true, c.well_formed.0.0)
+
+pub bounds-items-entries : goal.bounds-items-entries
+bounds-items-entries c = omega (arith, run_within (is_entry c.args.number) c.args.entries c.args.items.now c.requires.entries, c.if-ordinal-entries.true)
