@@ -6,6 +6,8 @@ pub mod Decided
 pub mod Going
 pub mod Carrying
 pub mod Heavy
+mod Joining
+mod Walking
 pub mod PutLast
 pub mod Marked
 pub mod Refusing

@@ -196,9 +196,7 @@ pub fn put_once<T: Drop, P: Fn(&T) -> bool, S: Fn(Run<T>) -> Result<Step, AllocE
         walk = walk.pass(alloc, fate, &step, steps)?;
         left = rest;
     }
-    walk.end(&step, steps)?;
-    put_step(end_run(alloc, left, end)?, &step, steps)?;
-    Ok(())
+    walk.end_with(alloc, left, end, &step, steps)
 }
 
 /// What becomes of an item that is picked or not, where a new one takes the place of the first that
@@ -302,6 +300,24 @@ impl<T: Drop> Walk<T> {
         let Walk { last, changed, .. } = self;
         put_step(last, step, steps)?;
         Ok(changed)
+    }
+
+    /// The same, and what is left of a new item, if anything is, is put at the end of the list, in a
+    /// step of its own.
+    fn end_with<S: Fn(Run<T>) -> Result<Step, AllocError>>(
+        self,
+        alloc: Global,
+        left: Option<T>,
+        end: usize,
+        step: &S,
+        steps: &mut Vec<Step>,
+    ) -> Result<(), AllocError>
+        requires { S.IsAlwaysCallable step.now }
+        ensures { (step_with : Splice T → plain.Step) → MakesSteps (λ run made. FnReturns S.Fn step.now (run, tt) (Ok made)) step_with →
+            IfOk result (λ done. map step_of steps.new.items ≡ steps_then step_with (map step_of steps.old.items) self [] ++ map step_with (at_end left end)) }
+    {
+        self.end(step, steps)?;
+        put_step(end_run(alloc, left, end)?, step, steps)
     }
 }
 

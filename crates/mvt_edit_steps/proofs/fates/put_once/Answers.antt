@@ -1,13 +1,14 @@
 use Rattle.std.proofs.Common.{◌≤◌, ◌++◌, [], Some, length, map, refl, sym, ap, arith, ◌∙◌, append_assoc}
 use Rattle.std.proofs.lemmas.Fn.{says_at}
-use Rattle.std.proofs.lemmas.List.{map-append}
+use Rattle.std.proofs.lemmas.List.{append-nil, map-append}
+use Rattle.std.proofs.lemmas.Result.{IfOk-weaker}
 use Rattle.std.specs.Fn.{FnReturnsAt}
-use Rattle.std.specs.List.{cons_option}
 use Rattle.mvt_change.specs.ChangeStands.{step_of}
-use Rattle.mvt_edit_steps.specs.Fates.{splice_of, splices_of}
+use Rattle.mvt_edit_steps.specs.Fates.{splices_of}
 use Rattle.mvt_edit_steps.specs.Once.{at_end, left_once, once_fates}
-use Rattle.mvt_edit_steps.proofs.Following.{all_said, all_steps, goes_on, nothing_yet}
+use Rattle.mvt_edit_steps.proofs.Following.{all_said, goes_on, nothing_yet}
 use Rattle.mvt_edit_steps.proofs.Once.{once_more}
+use Rattle.mvt_edit_steps.proofs.Walking.{can_pass}
 use Rattle.mvt_edit_steps.proofs.fates.put_once.Goals as goal
 
 pub loop-index-init : goal.loop-index-init
@@ -31,14 +32,16 @@ returns g c = λ step_with means.
     let picked = said.picked in
     let first = splices_of (once_fates picked (Some c.args.new)) in
     let last = at_end (left_once picked (Some c.args.new)) c.args.end in
-    let ended = all_steps kept c.end.new.steps.items step_with means (c.in_ok-end.ensures step_with means).0 ∙ ap (λ fates. given ++ map step_with (splices_of fates)) said.fates_so in
-    let put = c.in_ok-put_step.ensures step_with means in
-    let run = c.in_ok-end_run.ensures ∙ ap (λ left. at_end left c.args.end) said.left_so in (
+    let ended = sym (kept.so_far step_with means []) ∙ ap (λ fates. given ++ map step_with (splices_of fates)) (append-nil kept.fates ∙ said.fates_so) in
+    IfOk-weaker c.end_with.result _ _ (λ done put. (
       picked,
       said.answered,
       put
-          ∙ ap (λ before. before ++ map step_with (map splice_of (cons_option c.in_ok-end_run.field-0 []))) ended
-          ∙ ap (λ splices. (given ++ map step_with first) ++ map step_with splices) run
+          ∙ ap (λ before. before ++ map step_with (at_end c.loop-index.left c.args.end)) ended
+          ∙ ap (λ left. (given ++ map step_with first) ++ map step_with (at_end left c.args.end)) said.left_so
           ∙ append_assoc given (map step_with first) (map step_with last)
           ∙ ap (λ steps. given ++ steps) (sym (map-append step_with first last)),
-    )
+    )) (c.end_with.ensures step_with means)
+
+pub pass-requires-clause-ends : goal.pass-requires-clause-ends
+pass-requires-clause-ends g c = can_pass c.loop-index.invariant (omega arith)

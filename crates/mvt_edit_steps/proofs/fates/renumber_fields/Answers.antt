@@ -9,6 +9,7 @@ use Rattle.mvt_edit_steps.specs.Fates.{Splice, seen, splices_of}
 use Rattle.mvt_edit_steps.proofs.Decided.{Sized, all_decided, all_sized, decided_more, sized_more, sized_none}
 use Rattle.mvt_edit_steps.proofs.Following.{all_said, all_steps, goes_on, nothing_yet}
 use Rattle.mvt_edit_steps.proofs.Planned.{splices_seen}
+use Rattle.mvt_edit_steps.proofs.Walking.{can_pass}
 use Rattle.mvt_edit_steps.proofs.fates.renumber_fields.Goals as goal
 
 pub loop-index-init : goal.loop-index-init
@@ -42,3 +43,6 @@ returns-clause-size g c =
     let all : length c.args.fields.now ≤ c.loop-index.index = let done = c.loop-index-test.false in omega arith in
     all_sized c.args.number c.args.decisions.now c.loop-index.left.now c.args.fields.now c.args.beside c.loop-index.size
     (subst (λ fields. Sized c.args.number c.args.decisions.now c.loop-index.left.now fields c.args.beside c.loop-index.size) (take_all c.loop-index.index c.args.fields.now all) c.loop-index.invariant.size)
+
+pub pass-requires-clause-ends : goal.pass-requires-clause-ends
+pass-requires-clause-ends g c = can_pass c.loop-index.invariant.steps (omega arith)

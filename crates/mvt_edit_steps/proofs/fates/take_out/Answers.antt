@@ -5,6 +5,7 @@ use Rattle.mvt_renumber.specs.Fates.{changes}
 use Rattle.mvt_edit_steps.specs.Fates.{splices_of}
 use Rattle.mvt_edit_steps.proofs.Following.{all_said, all_steps, goes_on, nothing_yet}
 use Rattle.mvt_edit_steps.proofs.Marked.{marked_more}
+use Rattle.mvt_edit_steps.proofs.Walking.{can_pass}
 use Rattle.mvt_edit_steps.proofs.fates.take_out.Goals as goal
 
 pub loop-index-init : goal.loop-index-init
@@ -27,3 +28,6 @@ returns g c = λ step_with means.
       following = all_steps kept c.end.new.steps.items step_with means ended.0 ∙ ap (λ all. given ++ map step_with (splices_of all)) fates;
       counted = ended.1 ∙ kept.counted ∙ ap (λ all. length (filter changes all)) fates;
     }) (c.end.ensures step_with means)
+
+pub pass-requires-clause-ends : goal.pass-requires-clause-ends
+pass-requires-clause-ends g c = can_pass c.loop-index.invariant (omega arith)
