@@ -10,7 +10,7 @@ use Rattle.mvt_document.specs.Kinds.{in_layer_of_kind, is_feature}
 use Rattle.mvt_document.specs.Plain.{Feature}
 use Rattle.mvt_document.specs.Runs.{IsRunOf}
 use Rattle.mvt_document.specs.Stands.{feature_of, layer_item_of}
-use Rattle.mvt_messages.specs.Found.{found_from, with_id}
+use Rattle.mvt_messages.specs.Found.{with_id}
 use Rattle.mvt_messages.specs.Views.{feature_in, has_id}
 use Rattle.mvt_layers.specs.WithId.{feature_with_id, with_id_from}
 use Rattle.mvt_layers.proofs.InRun.{run_within}

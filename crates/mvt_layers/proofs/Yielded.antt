@@ -1,10 +1,10 @@
 -- What results from the items of an iterator.
-use Rattle.std.proofs.Common.{◌≡◌, ◌≤◌, ◌<◌, ◌^◌, ℕ, suc, Option, Some, None, List, [], ◌∷◌, ◌++◌, length, map, option_map, refl, ap, ◌∙◌, arith}
+use Rattle.std.proofs.Common.{◌≡◌, ◌≤◌, ◌<◌, ◌^◌, Option, Some, None, List, [], ◌∷◌, ◌++◌, length, map, option_map, refl, ap, ◌∙◌, arith}
 use Rattle.mvt_document.proofs.Lists.{cons_no_more}
 use Rattle.std.proofs.lemmas.List.{length-map}
 use Rattle.std.proofs.lemmas.Iterator.{YieldsList, items_from_drains}
 use Rattle.std.specs.Iterator.{AlwaysYields, Drains}
-use Rattle.std.specs.List.{filter_map, cons_option, last_or}
+use Rattle.std.specs.List.{filter_map, last_or}
 
 pub map_last : {A B : Type 0} (v : A → B) (o : Option A) (xs : List A) → option_map v (last_or o xs) ≡ last_or (option_map v o) (map v xs)
 map_last v o [] = refl
