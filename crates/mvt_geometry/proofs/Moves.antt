@@ -103,6 +103,11 @@ read_odd first all last [] read r some few points g = absurd (omega arith)
 read_odd first all last (x ∷ []) read r some few points g = let left = r.only points g in leads_odd last x left.0 left.2
 read_odd first all last (x ∷ y ∷ rest) read r some few points g = absurd (omega arith)
 
+-- there is a last point, wherever one comes from
+pub same_last : (first from : Point) (numbers : List ℕ) (points : List Point) → GoesOn first numbers points → last_from first points ≡ last_from from points
+same_last first from numbers [] g = absurd g
+same_last first from numbers (point ∷ points) g = refl
+
 -- ---- the first numbers of a list
 
 pub first_two : (s : List ℕ) → 2 ≤ length s → s ≡ get_or s 0 0 ∷ get_or s 1 0 ∷ drop 2 s

@@ -1,12 +1,12 @@
 -- Integers that are put one after the other: what is put so far, and what is left, are the whole.
-use Rattle.std.proofs.Common.{◌≡◌, ℕ, List, [], ◌∷◌, ◌++◌, length, refl, sym, ap, ◌∙◌, arith, append_assoc}
+use Rattle.std.proofs.Common.{◌≡◌, ℕ, ◌≤◌, List, [], ◌∷◌, ◌++◌, length, drop, refl, sym, ap, subst, ◌∙◌, arith, append_assoc}
 use Rattle.std.specs.List.{AllByRecursion}
-use Rattle.std.proofs.lemmas.List.{append-nil}
+use Rattle.std.proofs.lemmas.List.{append-nil, drop_all}
 use Rattle.std.proofs.lemmas.List.Concat.{flat_map-append}
 use Rattle.mvt_geometry.specs.Shapes.{Point, Kind, Dots, Lines, Areas, IsPartCount, IsPart}
 use Rattle.mvt_document.specs.Wire.{shortest}
 use Rattle.mvt_geometry.specs.Integers.{deltas, parameters, last_from, path, paths, closing_of, all_points, origin, integers_of, IsDelta, IsRepeated, IsInRange, packed}
-use Rattle.mvt_geometry.specs.Walks.{integers_of_part, integers_from, AreInRange}
+use Rattle.mvt_geometry.specs.Walks.{integers_of_part, integers_from, IsPartInRange, AreInRange}
 use Rattle.mvt_geometry.proofs.Parts.{deltas_apart, deltas_together, with}
 
 -- ---- points
@@ -27,6 +27,13 @@ put_point from all old last p left now new r e short = record {
   ends = r.ends;
 }
 
+-- none is left after the last
+pub put_points_all : (from : Point) (all : List Point) (old : List ℕ) (last : Point) (n : ℕ) (now : List ℕ) → length all ≤ n → Putting from all old last (drop n all) now
+    → (now ≡ old ++ packed (parameters from all)) × AllByRecursion IsDelta (deltas from all) × (last ≡ last_from from all)
+put_points_all from all old last n now le r =
+    let whole = subst (λ (s : List Point). Putting from all old last s now) (drop_all n all le) r in
+    (sym (append-nil now) ∙ whole.put, whole.short tt, whole.ends)
+
 -- ---- parts
 
 pub record PuttingParts (kind : Kind) (all : List (List Point)) (from : Point) (left : List (List Point)) (now : List ℕ) : Type 0 where
@@ -34,6 +41,16 @@ pub record PuttingParts (kind : Kind) (all : List (List Point)) (from : Point) (
   pub in_range : AreInRange kind from left → AreInRange kind origin all
   pub only : AreInRange kind origin all → AreInRange kind from left
   pub parts : AllByRecursion (IsPart kind) left
+
+pub put_part : (kind : Kind) (all : List (List Point)) (from to : Point) (part : List Point) (left : List (List Point)) (now new : List ℕ) → PuttingParts kind all from (part ∷ left) now
+    → new ≡ now ++ packed (integers_of_part kind from part) → IsPartInRange kind from part → to ≡ last_from from part → PuttingParts kind all to left new
+put_part kind all from to part left now new r e range last = rw last (record {
+  put = ap (λ (s : List ℕ). s ++ packed (integers_from kind (last_from from part) left)) e ∙ append_assoc now (packed (integers_of_part kind from part)) (packed (integers_from kind (last_from from part) left))
+      ∙ ap (λ (s : List ℕ). now ++ s) (sym (flat_map-append shortest (integers_of_part kind from part) (integers_from kind (last_from from part) left))) ∙ r.put;
+  in_range = λ h. r.in_range (range, h);
+  only = λ h. (r.only h).1;
+  parts = r.parts.1;
+})
 
 pub put_parts_all : (kind : Kind) (all : List (List Point)) (from : Point) (now : List ℕ) → PuttingParts kind all from [] now → (now ≡ packed (integers_from kind origin all)) × AreInRange kind origin all
 put_parts_all kind all from now r = (sym (append-nil now) ∙ r.put, r.in_range tt)

@@ -1,8 +1,9 @@
-use Rattle.std.proofs.Common.{◌≡◌, ℕ, ◌+◌, ◌*◌, ◌/◌, ◌^◌, ◌<◌, ◌≤◌, List, [], ◌∷◌, ◌++◌, length, take, drop, get_or, sym, ap, subst, arith, rules, length-append}
+use Rattle.std.proofs.Common.{◌≡◌, ℕ, ◌+◌, ◌*◌, ◌/◌, ◌^◌, ◌<◌, ◌≤◌, List, [], ◌∷◌, ◌++◌, length, take, drop, get_or, sym, ap, ◌∙◌, subst, arith, rules, length-append}
 use Rattle.std.proofs.lemmas.List.{take_rest, take-append-drop}
 use Rattle.std.proofs.lemmas.Result.{err_from_is_err_and}
 use Rattle.mvt_geometry.specs.Walks.{BeginsWithPart, GoesOn}
 use Rattle.mvt_geometry.proofs.Fronts.{begins_with_four, goes_on_from, begins_from, first_four, length-parameters}
+use Rattle.mvt_geometry.proofs.Moves.{same_last}
 use Rattle.mvt_geometry.proofs.path.path_at_front.Goals as goal
 use Rattle.mvt_geometry.proofs.path.path_at_front.Goals.{then-command-ne-LINE_TO-via-then-command-ne-LINE_TO, then-command-ne-LINE_TO-via-else-command-ne-LINE_TO+then-count-least, then-command-ne-LINE_TO-via-else-command-ne-LINE_TO+else-count-least+then-following-count}
 
@@ -41,3 +42,6 @@ returns-clause-found c =
     let front = first_four numbers (omega (arith, c.in-9.len_at_least)) in
     let same : 9 ∷ get_or numbers 1 0 ∷ get_or numbers 2 0 ∷ (2 + 8 * count) ∷ drop 4 numbers ≡ numbers = cc (front, first, line) in
     subst (λ (s : List ℕ). BeginsWithPart c.args.least [] c.args.from s points rest) same begins
+
+pub returns-clause-last : goal.returns-clause-last
+returns-clause-last c = c.in_ok-points.ensures.last ∙ same_last c.in-Some.first c.args.from _ c.in_ok-points.points.items c.in_ok-points.ensures.points

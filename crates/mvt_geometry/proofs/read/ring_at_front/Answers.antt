@@ -22,3 +22,6 @@ returns-in_default-clause-bad c = λ e points rest p.
       | in_default-via-then-rest-lt1 w ↦ grind (arith, some)
       | in_default-via-else-rest-lt1+in_default-1 w ↦ grind (arith, first)
     ]
+
+pub returns-clause-last : goal.returns-clause-last
+returns-clause-last c = c.in_ok-points.ensures.last
