@@ -2,6 +2,7 @@
 use Rattle.std.proofs.Common.{◌≡◌, ℕ, suc, ◌+◌, ◌-◌, ◌<◌, ◌≤◌, ◌/◌, ◌%◌, Bool, true, false, cond, not, List, [], ◌∷◌, ◌++◌, length, map, take, drop, get_or, refl, sym, ap, subst, ◌∙◌, append_assoc, arith}
 use Rattle.std.specs.Prelude.{slice_index, codes, Result, Ok, Err, OnErr}
 use Rattle.std.specs.Char.{is_ascii_control}
+use Rattle.std.specs.Fmt.{signed_decimal}
 use Rattle.std.specs.List.{flat_map, position_or_len}
 use Rattle.std.proofs.lemmas.List.Sums.{prefix_len_stops}
 use Rattle.std.proofs.lemmas.List.{append-nil, nil_from_length, take_all, take_more, take-append-drop, drop_more, length-drop, get_or-drop, flat_map_more}
@@ -41,6 +42,11 @@ next_begun line written new front back form e is begun = record {
   added = begun.added;
   whole = ap (λ (xs : List ℕ). line ++ xs) (sym e) ∙ sym (append_assoc line front back) ∙ ap (λ (xs : List ℕ). xs ++ back) (sym is) ∙ begun.whole;
 }
+
+-- the first piece was added, and then the other one
+pub next_written : (line written new front back form : List ℕ) → front ++ back ≡ form → written ≡ line ++ front → new ≡ written ++ back → new ≡ line ++ form
+next_written line written new front back form e is added =
+    added ∙ ap (λ (xs : List ℕ). xs ++ back) is ∙ append_assoc line front back ∙ ap (λ (xs : List ℕ). line ++ xs) e
 
 -- ---- hexadecimal digits
 
@@ -125,6 +131,30 @@ point_begun line so_far added new points i d low written space begun =
     subst (λ (form : List ℕ). Extends new (line ++ form)) (sym (spaced_form points))
     (item_begun spaced line so_far new points i d low (written ∙ ap (λ (xs : List ℕ). line ++ xs) (spaced_form (take i points)))
     (next_begun so_far added new (codes " ") (point_form (get_or points i d)) (spaced (get_or points i d)) refl space begun))
+
+-- ---- a point
+
+-- of its first coordinate a prefix was added, or the whole
+pub x_begun : (line new : List ℕ) (point : Point) → Extends new (line ++ signed_decimal point.x) → Extends new (line ++ point_form point)
+x_begun line new point = first_begun line new (signed_decimal point.x) (44 ∷ signed_decimal point.y) (point_form point) refl
+
+pub x_written : (line new : List ℕ) (point : Point) → new ≡ line ++ signed_decimal point.x → Extends new (line ++ point_form point)
+x_written line new point is =
+    next_begun line new new (signed_decimal point.x) (44 ∷ signed_decimal point.y) (point_form point) refl is (record { added = 44 ∷ signed_decimal point.y; whole = refl })
+
+-- its first coordinate was added, the comma, and then the other one, or a prefix of it
+module _ (line first comma new : List ℕ) (point : Point) (is : first ≡ line ++ signed_decimal point.x) (added : comma ≡ first ++ 44 ∷ []) where
+  joined : (signed_decimal point.x ++ 44 ∷ []) ++ signed_decimal point.y ≡ point_form point
+  joined = append_assoc (signed_decimal point.x) (44 ∷ []) (signed_decimal point.y)
+
+  before : comma ≡ line ++ (signed_decimal point.x ++ 44 ∷ [])
+  before = next_written line first comma (signed_decimal point.x) (44 ∷ []) (signed_decimal point.x ++ 44 ∷ []) refl is added
+
+  pub point_written : new ≡ comma ++ signed_decimal point.y → new ≡ line ++ point_form point
+  point_written = next_written line comma new (signed_decimal point.x ++ 44 ∷ []) (signed_decimal point.y) (point_form point) joined before
+
+  pub point_begins : Extends new (comma ++ signed_decimal point.y) → Extends new (line ++ point_form point)
+  point_begins = next_begun line comma new (signed_decimal point.x ++ 44 ∷ []) (signed_decimal point.y) (point_form point) joined before
 
 -- ---- bytes that stand for themselves
 

@@ -1,11 +1,13 @@
 -- How what the program holds is written, piece by piece.
-use Rattle.std.specs.Prelude.{ℕ, List, [], ◌∷◌, ◌++◌, map, codes}
+use Rattle.std.specs.Prelude.{ℕ, List, [], ◌∷◌, ◌++◌, map, codes, decimal}
 use Rattle.std.specs.List.{flat_map}
+use Rattle.std.specs.Fmt.{signed_decimal}
+use Rattle.hex.specs.Hex.{encode_lower}
 use Rattle.mvt_geometry.specs.declared.shapes.Point.{Point}
 use Rattle.mvt_value.specs.declared.value.Value.{Value}
 use Rattle.mvt_value.specs.declared.value.Value.TheVariants as shown
 use Rattle.mvt_value.specs.Values as plain
-use Rattle.tile_text.specs.Texts.{value_form, raw_form, point_form}
+use Rattle.tile_text.specs.Texts.{text_form, truth_form, value_form, raw_form, point_form}
 
 -- the form of what the program shows of a value: the value, or the bytes that have none
 abbrev pub shown_form : Value → List ℕ
@@ -33,6 +35,17 @@ type_word (shown.Uint number) = codes "uint "
 type_word (shown.Sint number) = codes "sint "
 type_word (shown.Bool truth) = codes "bool "
 type_word (shown.Raw bytes) = raw_word bytes.now
+
+-- what is shown of a value after the word of its type
+abbrev pub rest_form : Value → List ℕ
+rest_form (shown.Text text) = text_form text.now
+rest_form (shown.Float4 bytes) = encode_lower bytes
+rest_form (shown.Double8 bytes) = encode_lower bytes
+rest_form (shown.Int number) = signed_decimal number
+rest_form (shown.Uint number) = decimal number
+rest_form (shown.Sint number) = signed_decimal number
+rest_form (shown.Bool truth) = truth_form truth
+rest_form (shown.Raw bytes) = encode_lower bytes.now
 
 -- the words, each with a space before it
 abbrev pub with_leading_spaces : List (List ℕ) → List ℕ

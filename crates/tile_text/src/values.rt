@@ -2,7 +2,7 @@
 
 ghost use Rattle.std.specs.Prelude.{◌≡◌, ◌++◌, OnErr, OnOk};
 ghost use Rattle.tile_text.specs.Extends.{Extends};
-ghost use Rattle.tile_text.specs.TextStands.{shown_form, type_word};
+ghost use Rattle.tile_text.specs.TextStands.{shown_form, type_word, rest_form};
 
 use crate::numbers::{put_decimal, put_signed_decimal};
 use crate::texts::{put_hex, put_text};
@@ -16,6 +16,15 @@ pub fn put_value(line: &mut Vec<u8>, value: Value<'_>) -> Result<(), AllocError>
     ensures err { OnErr result (Extends line.new.items (line.old.items ++ shown_form value.entry)) }
 {
     line.extend_from_slice(type_word(value))?;
+    put_rest(line, value)
+}
+
+/// Adds what follows the type's word.
+fn put_rest(line: &mut Vec<u8>, value: Value<'_>) -> Result<(), AllocError>
+    ensures ok { OnOk result (line.new.items ≡ line.old.items ++ rest_form value.entry) }
+    ensures kept { Extends line.old.items line.new.items }
+    ensures err { OnErr result (Extends line.new.items (line.old.items ++ rest_form value.entry)) }
+{
     match value {
         Value::Text(text) => put_text(line, text),
         Value::Float4(bytes) => put_hex(line, &bytes),
