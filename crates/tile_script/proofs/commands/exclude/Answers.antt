@@ -1,4 +1,4 @@
-use Rattle.std.proofs.Common.{map, arith}
+use Rattle.std.proofs.Common.{map}
 use Rattle.mvt_meaning.specs.CommandStands.{command_of}
 use Rattle.tile_lines.specs.Answers.{Gives}
 use Rattle.tile_lines.specs.WordStands.{word_of}
@@ -10,12 +10,12 @@ pub returns-in_err-layers-clause-answer : goal.returns-in_err-layers-clause-answ
 unfolding exclude_of
 returns-in_err-layers-clause-answer c =
     let answer = c.from_residual.result in
-    of_two_first (λ words. Gives command_of answer (exclude_of (map word_of words))) c.args.arguments.now _ (omega arith) (omega arith)
+    of_two_first (λ words. Gives command_of answer (exclude_of (map word_of words))) c.args.arguments.now _ c.in-len2.len_at_least c.in-len2.len_below
     (first_refused command_of answer c.in_err-layers.field-0.0 _ _ c.from_residual.ensures.1 c.in_err-layers.ensures.answer)
 
 pub returns-in_err-key-clause-answer : goal.returns-in_err-key-clause-answer
 unfolding exclude_of
 returns-in_err-key-clause-answer c =
     let answer = c.from_residual-in_err-key.result in
-    of_two (λ words. Gives command_of answer (exclude_of (map word_of words))) c.args.arguments.now _ _ (omega arith) (omega arith)
+    of_two (λ words. Gives command_of answer (exclude_of (map word_of words))) c.args.arguments.now _ _ c.in-len2.len_at_least c.in-len2.len_below
     (second_refused command_of answer c.in_err-key.field-0.0 _ _ _ _ c.from_residual-in_err-key.ensures.1 c.in_ok-layers.ensures.answer c.in_err-key.ensures.answer)

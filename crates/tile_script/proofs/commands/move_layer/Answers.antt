@@ -1,4 +1,4 @@
-use Rattle.std.proofs.Common.{map, sym, inr, arith}
+use Rattle.std.proofs.Common.{map, sym, inr}
 use Rattle.mvt_meaning.specs.CommandStands.{command_of}
 use Rattle.tile_lines.specs.Answers.{Gives}
 use Rattle.tile_lines.specs.WordStands.{word_of}
@@ -10,12 +10,12 @@ pub returns-in_err-layer-clause-answer : goal.returns-in_err-layer-clause-answer
 unfolding move_layer_of
 returns-in_err-layer-clause-answer c =
     let answer = c.from_residual.result in
-    of_two_first (λ words. Gives command_of answer (move_layer_of (map word_of words))) c.args.arguments.now _ (omega arith) (omega arith)
+    of_two_first (λ words. Gives command_of answer (move_layer_of (map word_of words))) c.args.arguments.now _ c.in-len2.len_at_least c.in-len2.len_below
     (first_refused command_of answer c.in_err-layer.field-0.0 _ _ c.from_residual.ensures.1 c.in_err-layer.ensures.answer)
 
 pub returns-in_err-index-clause-answer : goal.returns-in_err-index-clause-answer
 unfolding move_layer_of
 returns-in_err-index-clause-answer c =
     let answer = c.from_residual-in_err-index.result in
-    of_two (λ words. Gives command_of answer (move_layer_of (map word_of words))) c.args.arguments.now _ _ (omega arith) (omega arith)
+    of_two (λ words. Gives command_of answer (move_layer_of (map word_of words))) c.args.arguments.now _ _ c.in-len2.len_at_least c.in-len2.len_below
     (second_refused command_of answer c.in_err-index.field-0.0 _ _ _ _ c.from_residual-in_err-index.ensures.1 c.in_ok-layer.ensures.answer (inr (sym c.in_err-index.ensures)))
