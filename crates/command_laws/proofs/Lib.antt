@@ -1,19 +1,19 @@
-pub mod Accepted
-pub mod Around
-pub mod LastPut
-pub mod Parts
+mod Accepted
+mod Around
+mod LastPut
+mod Parts
 mod Renaming
 mod LayerCommands
 mod NewFeature
 mod FeatureCommands
 mod SelectionLaws
-pub mod OtherFields
-pub mod ReadValues
-pub mod SelectedAgain
+mod OtherFields
+mod ReadValues
+mod SelectedAgain
 mod NewOrdinals
 pub mod Lengths
-pub mod Elements
-pub mod EntryOrdinals
+mod Elements
+mod EntryOrdinals
 pub mod Documents
 mod NeverOutOfMemory
 mod ListWeights
@@ -21,3 +21,33 @@ mod PartWeights
 mod LayerWeights
 mod TakenWithin
 mod PutWithin
+mod ChangedLayers
+mod EachFeature
+mod Untagged
+mod Renamed
+mod Readable
+mod PairsRead
+mod Excluded
+mod Ids
+mod SameSelected
+mod Twice
+mod UnsetTwice
+mod MoreTags
+mod Grown
+mod Setting
+mod SetUnset
+mod Staying
+mod Left
+mod Repointed
+mod Used
+mod Compacted
+mod Again
+mod InTurn
+mod CompactedDocuments
+mod CompactionLaws
+mod Counted
+mod Translated
+mod Renumbered
+mod Shifted
+mod GeometrySet
+mod ShiftedBack

@@ -11,7 +11,7 @@ use Rattle.mvt_meaning.specs.declared.refusal.Refusal.{Refusal}
 use Rattle.mvt_meaning.specs.declared.refusal.Refusal.TheVariants.{AmbiguousFeature, AmbiguousLayer, NoFeature, NoLayer}
 use Rattle.mvt_meaning.proofs.Positions.{positions_from, positions_pass, positions_skip}
 use Rattle.mvt_meaning.proofs.SelectionLemmas.{two_apart}
-use Rattle.command_laws.specs.Laws.{HasId, HasName, IdMeansTheOne, IdMeansNone, NameMeansTheOne, NameMeansNone}
+use Rattle.command_laws.specs.SelectionLaws.{HasId, HasName, IdMeansTheOne, IdMeansNone, NameMeansTheOne, NameMeansNone}
 
 -- an item passes at this position
 abbrev pub PassesAt : {A : Type 0} → (A → Bool) → List A → ℕ → Type 0

@@ -1,8 +1,12 @@
 pub mod Kept
 pub mod LayerLaws
 pub mod FeatureLaws
-pub mod Laws
+pub mod SelectionLaws
 pub mod SizeLaws
 pub mod DocumentLaws
 pub mod MemoryLaws
 pub mod WeightLaws
+pub mod ChangedLayers
+pub mod AttributeLaws
+pub mod CompactionLaws
+pub mod GeometryLaws

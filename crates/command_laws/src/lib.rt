@@ -1,10 +1,16 @@
-//! Laws of selection and of commands. Each function does nothing: its contract is the law.
+//! Laws of selection and of commands. Each function does nothing: its contract is the law. Those of
+//! the commands on attributes, of those that remove unused keys and values, and of those on geometry
+//! are in modules: `attributes`, `compaction`, `geometry`.
 #![tactic(auto)]
+
+pub mod attributes;
+pub mod compaction;
+pub mod geometry;
 
 ghost use Rattle.command_laws.specs.DocumentLaws.{CommandMakesDocument};
 ghost use Rattle.command_laws.specs.FeatureLaws.{ClearIdClears, DropFeatureDrops, InsertFeatureInserts, MoveFeatureMoves, SetIdSets};
 ghost use Rattle.command_laws.specs.LayerLaws.{DropLayerDrops, KeepLayersKeeps, MoveLayerMoves, RenameNames};
-ghost use Rattle.command_laws.specs.Laws.{IdMeansTheOne, IdMeansNone, NameMeansTheOne, NameMeansNone};
+ghost use Rattle.command_laws.specs.SelectionLaws.{IdMeansTheOne, IdMeansNone, NameMeansTheOne, NameMeansNone};
 ghost use Rattle.command_laws.specs.MemoryLaws.{NoCommandIsOutOfMemory};
 ghost use Rattle.command_laws.specs.SizeLaws.{CommandFits, NeverLonger};
 ghost use Rattle.command_laws.specs.WeightLaws.{PutWithin, TakenWithin};

@@ -1,5 +1,0 @@
-use Rattle.attribute_laws.proofs.Twice.{exclude_again_changes_nothing}
-use Rattle.attribute_laws.proofs.exclude_again_changes_nothing.Goals as goal
-
-pub returns : goal.returns
-returns c = exclude_again_changes_nothing

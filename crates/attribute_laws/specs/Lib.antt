@@ -1,2 +1,0 @@
-pub mod ChangedLayers
-pub mod Laws

@@ -1,5 +1,0 @@
-use Rattle.geometry_laws.proofs.Counted.{no_coordinate_is_far}
-use Rattle.geometry_laws.proofs.no_coordinate_is_far.Goals as goal
-
-pub returns : goal.returns
-returns c = no_coordinate_is_far

@@ -1,5 +1,0 @@
-use Rattle.geometry_laws.proofs.GeometrySet.{set_geometry_sets}
-use Rattle.geometry_laws.proofs.set_geometry_sets.Goals as goal
-
-pub returns : goal.returns
-returns c = set_geometry_sets

@@ -1,5 +1,0 @@
-use Rattle.geometry_laws.proofs.Shifted.{shift_by_nothing}
-use Rattle.geometry_laws.proofs.shift_by_nothing.Goals as goal
-
-pub returns : goal.returns
-returns c = shift_by_nothing
