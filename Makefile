@@ -22,7 +22,7 @@ quick: toolchain
 	for crate in crates/*/; do (cd $$crate && rt fmt) || exit 1; done
 	tools/lint
 	tools/pages --check
-	tools/build tileshell_program history_laws run_laws row_tests
+	tools/build tileshell_program run_laws row_tests
 	$(MAKE) all
 	tools/transcripts
 	$(MAKE) rows

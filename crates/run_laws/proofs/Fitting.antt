@@ -6,8 +6,8 @@ use Rattle.mvt_document.proofs.EachItem.{all_taken}
 use Rattle.mvt_meaning.specs.Command.{Command, IsCommand}
 use Rattle.mvt_meaning.specs.Requests.{GoBack, Cancel}
 use Rattle.mvt_history_steps.specs.History.{History, begun, commands_in}
-use Rattle.history_laws.specs.Laws.{FitsAFile}
-use Rattle.history_laws.proofs.Throughout.{IsFrom, with_group_valid, at_point_valid, asked_valid, begun_valid, history_fits}
+use Rattle.run_laws.specs.HistoryLaws.{FitsAFile}
+use Rattle.run_laws.proofs.Throughout.{IsFrom, with_group_valid, at_point_valid, asked_valid, begun_valid, history_fits}
 use Rattle.tile_arguments.specs.Request.{Request, OnHistory}
 use Rattle.tile_lines.specs.Lines.{lines_of}
 use Rattle.tile_course.specs.Answers.{MayStop}

@@ -1,11 +1,20 @@
-pub mod ValidRequests
-pub mod LineRequests
-pub mod Standing
-pub mod UndoLines
-pub mod StepLines
-pub mod NoneOutOfMemory
-pub mod LineLaws
-pub mod Fitting
-pub mod ReadLines
-pub mod Faults
-pub mod WholeReplies
+mod ValidRequests
+mod LineRequests
+mod Standing
+mod UndoLines
+mod StepLines
+mod NoneOutOfMemory
+mod LineLaws
+mod Fitting
+mod ReadLines
+mod Faults
+mod WholeReplies
+mod HistoryLaws
+mod Throughout
+mod Reaching
+mod Weighing
+mod UndosRedos
+mod OpenStep
+mod NoTrace
+mod GoingOn
+mod BackToMark

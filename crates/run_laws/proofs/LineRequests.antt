@@ -6,8 +6,8 @@ use Rattle.mvt_document.specs.Plain.{Document}
 use Rattle.mvt_meaning.specs.declared.refusal.Refusal.{Refusal}
 use Rattle.mvt_history_steps.specs.History.{History, IsSound, standing_document, edited, undone, redone, marked, unmarked, gone_back, opened, closed, cancelled}
 use Rattle.mvt_history_steps.specs.Requests.{or_before, asked, asked_all}
-use Rattle.history_laws.specs.Laws.{IsRequest}
-use Rattle.history_laws.proofs.HistoryLaws.{stays_sound}
+use Rattle.run_laws.specs.HistoryLaws.{IsRequest}
+use Rattle.run_laws.proofs.HistoryLaws.{stays_sound}
 use Rattle.mvt_meaning.specs.Requests.{HistoryRequest, Edit, Undo, Redo, SetMark, TakeMark, GoBack, Begin, End, Cancel}
 use Rattle.tile_arguments.specs.Request.{Request, OnHistory, ListMarks, PrintHistory, Size, Lists}
 use Rattle.tile_lines.specs.declared.parse_error.ParseError.{ParseError}

@@ -4,10 +4,10 @@ use Rattle.std.proofs.lemmas.Grind.{flat_map-append}
 use Rattle.mvt_document.specs.Wire.{bytes_of}
 use Rattle.mvt_history_steps.specs.History.{History, with_group, standing_document, gone_back, opened}
 use Rattle.mvt_history_steps.specs.Requests.{or_before, asked, asked_all}
-use Rattle.history_laws.proofs.NoTrace.{cancel_leaves_no_trace}
-use Rattle.history_laws.proofs.HistoryLaws.{step_undoes_whole}
-use Rattle.history_laws.proofs.BackToMark.{back_to_mark}
-use Rattle.history_laws.proofs.HistoryLaws.{stays_sound}
+use Rattle.run_laws.proofs.NoTrace.{cancel_leaves_no_trace}
+use Rattle.run_laws.proofs.HistoryLaws.{step_undoes_whole}
+use Rattle.run_laws.proofs.BackToMark.{back_to_mark}
+use Rattle.run_laws.proofs.HistoryLaws.{stays_sound}
 use Rattle.mvt_meaning.specs.Requests.{Begin, End, Cancel, Undo, SetMark, GoBack}
 use Rattle.tile_arguments.specs.Request.{Request, OnHistory}
 use Rattle.tile_script.specs.Line.{answer_to}

@@ -13,7 +13,7 @@ use Rattle.tile_course.specs.Run.{Progress, accepted, answered_by, settled_by, a
 use Rattle.run_laws.specs.RunLaws.{UndoInARun, UndoInAScript}
 use Rattle.tile_course.specs.declared.outcome.Options.{Options}
 use Rattle.tile_course.proofs.Prefixes.{prefix_stands}
-use Rattle.history_laws.proofs.HistoryLaws.{undo_at_once}
+use Rattle.run_laws.proofs.HistoryLaws.{undo_at_once}
 use Rattle.tile_lines.proofs.LineLaws.{lines_only}
 use Rattle.run_laws.proofs.LineRequests.{sound_ran}
 

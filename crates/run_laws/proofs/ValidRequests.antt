@@ -9,7 +9,7 @@ use Rattle.std.specs.Str.Parse.{digits_value}
 use Rattle.std.proofs.lemmas.Bool.{cond_both}
 use Rattle.mvt_meaning.specs.Command.{Command, IsCommand}
 use Rattle.mvt_meaning.specs.Requests.{HistoryRequest, Edit, Undo, Redo, SetMark, TakeMark, GoBack, Begin, End, Cancel}
-use Rattle.history_laws.specs.Laws.{IsRequest}
+use Rattle.run_laws.specs.HistoryLaws.{IsRequest}
 use Rattle.tile_arguments.specs.Arguments.{text_of, texts_of, is_number, number_of, number_in, distance_of, layer_of, layers_of, geometry_of, value_of}
 use Rattle.tile_arguments.specs.Request.{Request, OnHistory, ListMarks, PrintHistory, Size}
 use Rattle.tile_arguments.proofs.Digits.{is_number_parts}

@@ -10,7 +10,7 @@ use Rattle.tile_script.specs.Line.{answer_to}
 use Rattle.tile_lines.specs.Lines.{HasNoLineFeed, with_feed, EndsWithALine}
 use Rattle.mvt_history_steps.specs.History.{History, IsSound, commands_in, standing_document, marked, gone_back}
 use Rattle.mvt_history_steps.specs.Requests.{SetsOther, LeavesOpen, asked_all}
-use Rattle.history_laws.specs.Laws.{FitsAFile, HoldsThroughout, IsRequest}
+use Rattle.run_laws.specs.HistoryLaws.{FitsAFile, HoldsThroughout, IsRequest}
 use Rattle.tile_lines.specs.declared.parse_error.ParseError.{ParseError}
 use Rattle.tile_course.specs.AnswerLaws.{Looks}
 use Rattle.tile_course.specs.Replies.{accepted_reply, refused_reply, NoneIsOutOfMemory}

@@ -1,5 +1,6 @@
-//! Laws of whole runs. Each function does nothing: its contract is the law. The laws of histories
-//! and of how requests are answered are re-exported.
+//! Laws of whole runs. Each function does nothing: its contract is the law. Those of histories and
+//! sessions are in the module `history`; they, and the laws of how requests are answered, are
+//! re-exported.
 #![tactic(auto)]
 
 ghost use Rattle.tile_course.specs.DeviceLaws.{FailedDevicesAreNamed, WornOutRunsNameADevice, DevicesAreNamedForCause};
@@ -7,7 +8,9 @@ ghost use Rattle.tile_course.specs.RunLaws.{PrefixesHaveFirstLines, PrefixesStan
 ghost use Rattle.run_laws.specs.FaultLaws.{ScriptsAreReadByLines, OutFailsLast, ScriptFailsBetweenLines, StrictRunsReplyAlike, RepliesAreCutShort, WholeRepliesStand};
 ghost use Rattle.run_laws.specs.RunLaws.{RepliesStand, RefusedLinesChangeNothing, SilentLinesChangeNothing, StrictRunsStop, AcceptedRunsAreAlike, StandingCommands, LinesAreRequests, UndoInARun, UndoInAScript, CancelInARun, StepUndoneInARun, BackInARun, RunsAreWalks, NoRunIsOutOfMemory, LookingChangesNothing, RequestsAreValid, TilesFit, TilesFitOnTheWay};
 
-pub use history_laws::{
+pub mod history;
+
+pub use history::{
     back_to_the_mark, cancel_leaves_no_trace, changes_lead, empty_step_leaves_no_trace, few_steps,
     history_fits, history_of_documents, kept_within, redos_undo_undos, stays_sound, stays_valid,
     step_undoes_whole, stopped_goes_on, undo_after_end, undo_at_once, undos_undo_redos,

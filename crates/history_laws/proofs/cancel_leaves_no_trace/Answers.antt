@@ -1,5 +1,0 @@
-use Rattle.history_laws.proofs.NoTrace.{cancel_leaves_no_trace}
-use Rattle.history_laws.proofs.cancel_leaves_no_trace.Goals as goal
-
-pub returns : goal.returns
-returns c = cancel_leaves_no_trace

@@ -1,5 +1,0 @@
-use Rattle.history_laws.proofs.GoingOn.{stopped_goes_on}
-use Rattle.history_laws.proofs.stopped_goes_on.Goals as goal
-
-pub returns : goal.returns
-returns c = stopped_goes_on
