@@ -74,6 +74,16 @@ pub seen_none : (pending : Option (Vec HeldChange Global)) → ((changes : Vec H
 seen_none None left = refl
 seen_none (Some changes) left = absurd (left changes refl)
 
+-- and what contracts see of none is none
+pub seen_nothing : (pending : Option (Vec HeldChange Global)) → option_map from_last (option_map (λ pending. pending.items) pending) ≡ None → option_map (λ pending. pending.items) pending ≡ None
+seen_nothing None is = refl
+seen_nothing (Some changes) is = absurd (cc)
+
+-- contracts see an open step where one is open
+pub seen_is_some : (pending : Option (Vec HeldChange Global)) → is_some (option_map from_last (option_map (λ pending. pending.items) pending)) ≡ is_some pending
+seen_is_some None = refl
+seen_is_some (Some changes) = refl
+
 -- ---- out of memory
 
 pub ran_out_of_memory : (asked : Result History HistoryError) (history : History) (answer : Result (Unit {0}) HistoryError) (session : Standing) → IsErrAnd answer (λ error. error ≡ NoMemory) → IsOk asked → StandsFor session history → AnswersWithMemory asked history answer session
@@ -267,6 +277,10 @@ step_cancelled history session changes is stands =
     )
 
 -- ---- what is kept of a command
+
+-- `seen` is the session as contracts see it before
+pub seen_kept : (before seen after : Standing) (change : Change) → before ≡ seen → IsKept before after (turn change before.document) → IsKept seen after (turn change seen.document)
+seen_kept before seen after change same kept = subst (λ session. IsKept session after (turn change session.document)) same kept
 
 -- where no step is open; `seen` is the session as contracts see it before
 pub alone_carries : (command : Command) (seen before after : Standing) (change : Change) → before ≡ seen → before.pending ≡ None → IsKept before after (turn change before.document) → IsPrepared command before.document change → after.document ≡ go change before.document → CarriesOut command seen after

@@ -16,7 +16,7 @@ ghost use Rattle.mvt_history_steps.specs.Moves.{gone, moved_along, walk_in};
 ghost use Rattle.mvt_history_steps.specs.Standing.{IsReady};
 ghost use Rattle.mvt_history_steps.specs.declared.steps.Direction.TheVariants.{Undo, Redo};
 ghost use Rattle.mvt_history_steps.specs.Session.{Answers, AnswersBack, AnswersCancel, AnswersCommand, AnswersWithMemory, IsStop, NotStarted, SeesMark, StandsFor};
-ghost use Rattle.mvt_history.specs.Kept.{CarriesOut, IsCancelled, IsEnded, IsMoved, with_names, with_open};
+ghost use Rattle.mvt_history.specs.Kept.{CarriesOut, IsCancelled, IsEnded, IsKept, IsMoved, with_names, with_open};
 ghost use Rattle.mvt_history.specs.Refusing.{ensured_ahead, has_room};
 
 use circular_buffer::HeapCircularBuffer;
@@ -168,9 +168,21 @@ impl Session {
         if let Some(pending) = &mut self.pending {
             flip_onto(self.alloc, &mut self.document, pending, change)?;
         } else {
-            let change = flipped(self.alloc, &mut self.document, change)?;
-            keep(&mut self.undo, &mut self.redo, &mut self.marks, change);
+            self.carry_out(change)?;
         }
+        Ok(())
+    }
+
+    /// Carries a change out as a step of its own, where none is open; what was undone is forgotten.
+    fn carry_out(&mut self, change: Change) -> Result<(), AllocError>
+        requires closed { self.old.pending ≡ None }
+        requires fits { Fits (change_of change) self.old.document }
+        ensures document { OnOk result (self.new.document ≡ go (change_of change) self.old.document) }
+        ensures kept { OnOk result (IsKept self.old self.new (turn (change_of change) self.old.document)) }
+        ensures err { OnErr result (self.new ≡ self.old) }
+    {
+        let change = flipped(self.alloc, &mut self.document, change)?;
+        keep(&mut self.undo, &mut self.redo, &mut self.marks, change);
         Ok(())
     }
 

@@ -47,37 +47,22 @@ returns-in_ok-flip_onto-clause-kept c =
 
 -- ---- where none is open
 
-pub flipped-requires : goal.flipped-requires
-flipped-requires c = c.in_ok-change.ensures.fits
+pub carry_out-requires-clause-closed : goal.carry_out-requires-clause-closed
+carry_out-requires-clause-closed c = ap (option_map from_last) (seen_none c.self.inside.pending c.in_default.not-Some)
 
-kept : (c : goal.After-keep) → let s = c.self.inside in let pending = option_map (λ (pending : Vec Change Global). pending.items) s.pending in IsKept (seen_in s) (standing_of c.flipped.new.document c.keep.new.undo.items c.keep.new.redo.items s.depth c.keep.new.marks.items pending) (turn (change_of c.in_ok-change.change) (document_of s.document))
-kept c =
-    let s = c.self.inside in
-    let k = c.keep.new in
-    let pending = option_map (λ (pending : Vec Change Global). pending.items) s.pending in
-    let none = seen_none s.pending c.in_default.not-Some in
-    let undo = c.keep.ensures.undo ∙ ap (λ change. take s.undo.capacity (change ∷ from_last s.undo.items)) c.in_ok-change-2.ensures.back in
-    let redo = ap (λ (redo : Buffer Change). redo.items) c.keep.ensures.redo in
-    is_kept s.document c.flipped.new.document s.undo.items k.undo.items s.redo.items k.redo.items s.depth s.undo.capacity s.marks.items k.marks.items pending pending (turn (change_of c.in_ok-change.change) (document_of s.document)) c.self.invariant.room_for_undo undo redo c.keep.ensures.marks none
+pub carry_out-requires-clause-fits : goal.carry_out-requires-clause-fits
+carry_out-requires-clause-fits c = c.in_ok-change.ensures.fits
 
-pub invariant_of-self-in_default : goal.invariant_of-self-in_default
-invariant_of-self-in_default c =
-    let s = c.self.inside in
-    let session = seen_in s in
-    let none = ap (option_map from_last) (seen_none s.pending c.in_default.not-Some) in
-    rw (c.keep.ensures.capacity, ap (λ (redo : Buffer Change). redo.capacity) c.keep.ensures.redo)
-    (command_alone_held s.undo.capacity s.redo.capacity session _ (change_of c.in_ok-change.change) (kept c) none c.self.invariant c.in_ok-change.ensures.fits c.in_ok-change-2.ensures.document)
-
-pub returns-in_ok-change-2-clause-answer : goal.returns-in_ok-change-2-clause-answer
-returns-in_ok-change-2-clause-answer c = λ history stands.
+pub returns-in_ok-carry_out-clause-answer : goal.returns-in_ok-carry_out-clause-answer
+returns-in_ok-carry_out-clause-answer c = λ history stands.
     let s = c.self.inside in
     let session = seen_in s in
     let before = subst (λ s. StandsFor s history) (sym c.self.view_is) stands in
     let none = ap (option_map from_last) (seen_none s.pending c.in_default.not-Some) in
-    command_alone (command_of c.args.command.now) history session _ (change_of c.in_ok-change.change) (kept c) none c.self.invariant.ready.valid c.in_ok-change.ensures c.in_ok-change-2.ensures.document before
+    command_alone (command_of c.args.command.now) history session c.carry_out.new.self (change_of c.in_ok-change.change) c.in_ok-carry_out.ensures.kept none c.self.invariant.ready.valid c.in_ok-change.ensures c.in_ok-carry_out.ensures.document before
 
-pub returns-in_ok-change-2-clause-kept : goal.returns-in_ok-change-2-clause-kept
-returns-in_ok-change-2-clause-kept c =
+pub returns-in_ok-carry_out-clause-kept : goal.returns-in_ok-carry_out-clause-kept
+returns-in_ok-carry_out-clause-kept c =
     let s = c.self.inside in
     let none = ap (option_map from_last) (seen_none s.pending c.in_default.not-Some) in
-    alone_carries (command_of c.args.command.now) c.args.self.now (seen_in s) _ (change_of c.in_ok-change.change) c.self.view_is none (kept c) c.in_ok-change.ensures c.in_ok-change-2.ensures.document
+    alone_carries (command_of c.args.command.now) c.args.self.now (seen_in s) c.carry_out.new.self (change_of c.in_ok-change.change) c.self.view_is none c.in_ok-carry_out.ensures.kept c.in_ok-change.ensures c.in_ok-carry_out.ensures.document
