@@ -12,4 +12,6 @@ mod KeysInRun
 mod KeysRenamed
 mod Deciding
 mod PairsLost
+mod Pushed
+mod LastTags
 mod Excluded

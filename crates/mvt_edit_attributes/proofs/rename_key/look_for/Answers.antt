@@ -1,7 +1,13 @@
 use Rattle.std.proofs.Common.{[], refl, arith}
+use Rattle.mvt_document.specs.Kinds.{in_layer_of_kind}
+use Rattle.mvt_document.specs.declared.run.Kind.TheVariants.{Key}
+use Rattle.mvt_layers.proofs.InRun.{run_within}
 use Rattle.mvt_edit_attributes.specs.KeyFates.{FindsKeys}
 use Rattle.mvt_edit_attributes.proofs.KeysInRun.{found_in_run}
 use Rattle.mvt_edit_attributes.proofs.rename_key.look_for.Goals as goal
+
+pub slice_bounds-and_items-end : goal.slice_bounds-and_items-end
+slice_bounds-and_items-end c = rw c.as_slice-items.ensures (run_within (in_layer_of_kind Key) c.runs.result.keys c.args.items.now.items c.runs.ensures.keys)
 
 pub returns : goal.returns
 returns c =
