@@ -1,6 +1,6 @@
-//! Laws of whole runs. Each function does nothing: its contract is the law. Those of histories and
-//! sessions are in the module `history`; they, and the laws of how requests are answered, are
-//! re-exported.
+//! Laws of whole runs and of histories. Each function does nothing: its contract is the law. Those of
+//! histories and sessions are in the module `history`; they, and the laws of how requests are
+//! answered, are re-exported.
 #![tactic(auto)]
 
 ghost use Rattle.tile_course.specs.DeviceLaws.{FailedDevicesAreNamed, WornOutRunsNameADevice, DevicesAreNamedForCause};
