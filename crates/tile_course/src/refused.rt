@@ -2,7 +2,7 @@
 
 ghost use Rattle.std.specs.Prelude.{◌≡◌};
 ghost use Rattle.tile_course.specs.Replies.{refusal_number, refusal_name};
-ghost use Rattle.tile_course.specs.declared.refused.Refused.TheVariants.{Edit, History};
+ghost use Rattle.tile_course.specs.declared.refused.Refused.TheVariants.{Edit, History, Parse};
 
 use mvt_history_steps::HistoryError;
 use mvt_meaning::Refusal;
@@ -61,37 +61,67 @@ impl Refused {
         ensures name { result.1.now ≡ refusal_name self }
     {
         match self {
-            Refused::Parse(ParseError::BadUtf8) => (10, "BadUtf8"),
-            Refused::Parse(ParseError::BadWord) => (11, "BadWord"),
-            Refused::Parse(ParseError::UnknownCommand) => (12, "UnknownCommand"),
-            Refused::Parse(ParseError::BadArguments) => (13, "BadArguments"),
-            Refused::Parse(ParseError::BadNumber) => (14, "BadNumber"),
-            Refused::Parse(ParseError::BadValue) => (15, "BadValue"),
-            Refused::Parse(ParseError::BadGeometryText) => (16, "BadGeometryText"),
-            Refused::Parse(ParseError::LineTooLong) => (17, "LineTooLong"),
-            Refused::Parse(ParseError::NoMemory) => (60, "NoMemory"),
-            Refused::Edit(Refusal::NoLayer) => (20, "NoLayer"),
-            Refused::Edit(Refusal::AmbiguousLayer) => (21, "AmbiguousLayer"),
-            Refused::Edit(Refusal::NoFeature) => (22, "NoFeature"),
-            Refused::Edit(Refusal::NoKey) => (23, "NoKey"),
-            Refused::Edit(Refusal::BadPlace) => (24, "BadPlace"),
-            Refused::Edit(Refusal::AmbiguousFeature) => (25, "AmbiguousFeature"),
-            Refused::Edit(Refusal::BadTags { .. }) => (30, "BadTags"),
-            Refused::Edit(Refusal::RepeatedKey { .. }) => (31, "RepeatedKey"),
-            Refused::Edit(Refusal::BadGeometry { .. }) => (32, "BadGeometry"),
-            Refused::Edit(Refusal::NameTaken) => (40, "NameTaken"),
-            Refused::Edit(Refusal::KeyTaken) => (41, "KeyTaken"),
-            Refused::Edit(Refusal::OutOfRange) => (42, "OutOfRange"),
-            Refused::Edit(Refusal::TooLarge) => (43, "TooLarge"),
-            Refused::Edit(Refusal::NoMemory) => (60, "NoMemory"),
-            Refused::History(HistoryError::NothingToUndo) => (50, "NothingToUndo"),
-            Refused::History(HistoryError::NothingToRedo) => (51, "NothingToRedo"),
-            Refused::History(HistoryError::NoMark) => (52, "NoMark"),
-            Refused::History(HistoryError::TooManyMarks) => (53, "TooManyMarks"),
-            Refused::History(HistoryError::Stopped { .. }) => (54, "Stopped"),
-            Refused::History(HistoryError::GroupOpen) => (55, "GroupOpen"),
-            Refused::History(HistoryError::NoGroup) => (56, "NoGroup"),
-            Refused::History(HistoryError::NoMemory) => (60, "NoMemory"),
+            Refused::Parse(error) => of_words(error),
+            Refused::Edit(refusal) => of_tile(refusal),
+            Refused::History(error) => of_history(error),
         }
+    }
+}
+
+/// The number and the name of what the words of a line are refused for.
+fn of_words(error: ParseError) -> (u8, &'static str)
+    ensures number { result.0 ≡ refusal_number (Parse error) }
+    ensures name { result.1.now ≡ refusal_name (Parse error) }
+{
+    match error {
+        ParseError::BadUtf8 => (10, "BadUtf8"),
+        ParseError::BadWord => (11, "BadWord"),
+        ParseError::UnknownCommand => (12, "UnknownCommand"),
+        ParseError::BadArguments => (13, "BadArguments"),
+        ParseError::BadNumber => (14, "BadNumber"),
+        ParseError::BadValue => (15, "BadValue"),
+        ParseError::BadGeometryText => (16, "BadGeometryText"),
+        ParseError::LineTooLong => (17, "LineTooLong"),
+        ParseError::NoMemory => (60, "NoMemory"),
+    }
+}
+
+/// The number and the name of what the tile does not allow.
+fn of_tile(refusal: Refusal) -> (u8, &'static str)
+    ensures number { result.0 ≡ refusal_number (Edit refusal) }
+    ensures name { result.1.now ≡ refusal_name (Edit refusal) }
+{
+    match refusal {
+        Refusal::NoLayer => (20, "NoLayer"),
+        Refusal::AmbiguousLayer => (21, "AmbiguousLayer"),
+        Refusal::NoFeature => (22, "NoFeature"),
+        Refusal::NoKey => (23, "NoKey"),
+        Refusal::BadPlace => (24, "BadPlace"),
+        Refusal::AmbiguousFeature => (25, "AmbiguousFeature"),
+        Refusal::BadTags { .. } => (30, "BadTags"),
+        Refusal::RepeatedKey { .. } => (31, "RepeatedKey"),
+        Refusal::BadGeometry { .. } => (32, "BadGeometry"),
+        Refusal::NameTaken => (40, "NameTaken"),
+        Refusal::KeyTaken => (41, "KeyTaken"),
+        Refusal::OutOfRange => (42, "OutOfRange"),
+        Refusal::TooLarge => (43, "TooLarge"),
+        Refusal::NoMemory => (60, "NoMemory"),
+    }
+}
+
+/// The number and the name of what the history does not allow.
+fn of_history(error: HistoryError) -> (u8, &'static str)
+    ensures number { result.0 ≡ refusal_number (History error) }
+    ensures name { result.1.now ≡ refusal_name (History error) }
+{
+    match error {
+        HistoryError::NothingToUndo => (50, "NothingToUndo"),
+        HistoryError::NothingToRedo => (51, "NothingToRedo"),
+        HistoryError::NoMark => (52, "NoMark"),
+        HistoryError::TooManyMarks => (53, "TooManyMarks"),
+        HistoryError::Stopped { .. } => (54, "Stopped"),
+        HistoryError::GroupOpen => (55, "GroupOpen"),
+        HistoryError::NoGroup => (56, "NoGroup"),
+        HistoryError::NoMemory => (60, "NoMemory"),
     }
 }
