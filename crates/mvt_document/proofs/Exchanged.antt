@@ -1,5 +1,5 @@
 -- Lists whose items change places.
-use Rattle.std.proofs.Common.{◌≡◌, ℕ, ◌+◌, ◌-◌, ◌<◌, ◌≤◌, List, [], ◌∷◌, ◌++◌, length, set, length-append, length-drop, take, drop, take-append-drop, get_or, append_assoc, refl, sym, ap, ◌∙◌, arith}
+use Rattle.std.proofs.Common.{◌≡◌, ℕ, ◌+◌, ◌-◌, ◌<◌, ◌≤◌, List, [], ◌∷◌, ◌++◌, length, set, length-append, length-drop, take, drop, take-append-drop, get_or, drop-cons, append_assoc, refl, sym, ap, ◌∙◌, arith}
 use Rattle.std.proofs.lemmas.List.{append-nil, length-take-le, take_all, take_at, drop_all, drop_at, drop-drop, drop-take, take-take, take-set, drop-set}
 use borrow.Rule.Slice.PartMut.{put_mid}
 use Rattle.mvt_document.specs.Splicing.{moved, part, splice}
@@ -36,6 +36,26 @@ pub one_alone : {A : Type 0} (item : A) (items : List A) → length items ≡ 1 
 one_alone item [] one is = absurd (omega (arith, one))
 one_alone item (x ∷ []) one is = ap (λ first. first ∷ []) is
 one_alone item (x ∷ y ∷ items) one is = absurd (omega (arith, one))
+
+pub set_alone : {A : Type 0} (item x : A) (items : List A) → length items ≡ 1 → x ≡ item → set items 0 x ≡ item ∷ []
+set_alone item x [] one is = absurd (omega (arith, one))
+set_alone item x (y ∷ []) one is = ap (λ first. first ∷ []) is
+set_alone item x (y ∷ z ∷ items) one is = absurd (omega (arith, one))
+
+-- one item is taken
+pub part_one : {A : Type 0} (index taken : ℕ) (list : List A) (item : A) → taken ≡ 1 → index < length list → item ≡ get_or list index item → item ∷ [] ≡ part index taken list
+part_one index taken list item one within is =
+    ap (λ first. first ∷ []) is
+    ∙ sym (ap (take 1) (drop-cons list index item within))
+    ∙ ap (λ n. part index n list) (sym one)
+
+-- one item is taken, and none is put
+pub none_for_one : {A : Type 0} (index taken : ℕ) (list put left : List A) → taken ≡ 1 → [] ≡ put → left ≡ take index list ++ drop (index + 1) list → left ≡ splice index taken put list
+none_for_one index taken list put left one none is =
+    is
+    ∙ ap (λ front. front ++ drop (index + 1) list) (sym (append-nil (take index list)))
+    ∙ ap (λ none. splice index 1 none list) none
+    ∙ ap (λ n. splice index n put list) (sym one)
 
 -- ---- fewer items are put than are taken: some change places, and the others that are taken follow
 

@@ -175,11 +175,12 @@ impl<T: Drop> Put<T> {
         ensures err { OnErr result (self.new.room ≡ self.old.room) }
         ensures succeeds { more ≤ self.old.room → IsOk result }
     {
-        match &mut self.form {
-            Form::Empty if more <= 1 => {}
-            Form::One(_) if more == 0 => {}
-            Form::Many(items) => items.reserve_exact(more)?,
-            Form::Empty | Form::One(_) => self.form = Form::Many(self.take_roomy(more)?),
+        if let Form::Many(items) = &mut self.form {
+            return items.reserve_exact(more);
+        }
+        // One item has its place in the form.
+        if more > 1 - self.len() {
+            self.form = Form::Many(self.take_roomy(more)?);
         }
         Ok(())
     }
@@ -200,12 +201,17 @@ impl<T: Drop> Put<T> {
     {
         self.reserve_exact(taken.saturating_sub(self.len()))?;
         match &mut self.form {
-            Form::Empty if taken == 1 => self.form = Form::One([list.remove(index)]),
-            Form::One(item) if taken == 1 => mem::swap(&mut item[0], &mut list[index]),
-            Form::Empty | Form::One(_) => self.insert_in(list, index)?,
-            Form::Many(items) => exchange(list, index, taken, items)?,
+            Form::Empty if taken == 1 => {
+                self.form = Form::One([list.remove(index)]);
+                Ok(())
+            }
+            Form::One(item) if taken == 1 => {
+                mem::swap(&mut item[0], &mut list[index]);
+                Ok(())
+            }
+            Form::Empty | Form::One(_) => self.insert_in(list, index),
+            Form::Many(items) => exchange(list, index, taken, items),
         }
-        Ok(())
     }
 
     /// The item, if there is one, goes into a vector at an index. An `Err` changes nothing.

@@ -1,4 +1,4 @@
-use Rattle.std.proofs.Common.{◌+◌, ◌-◌, ◌≡◌, drop, length, take, sym, ap, ◌∙◌, subst, arith}
+use Rattle.std.proofs.Common.{◌+◌, ◌-◌, ◌≡◌, drop, length, take, refl, sym, ap, ◌∙◌, subst, arith}
 use Rattle.std.specs.Prelude.{IfSome}
 use Rattle.mvt_document.specs.Hashes.{AreHashes}
 use Rattle.mvt_document.specs.Kept.{IsKept}
@@ -50,3 +50,12 @@ returns-clause-items g c = c.in_ok-exchange_in.ensures.list ∙ ap (λ held. spl
 
 pub returns-clause-put : goal.returns-clause-put
 returns-clause-put g c = c.in_ok-exchange_in.ensures.put ∙ ap (λ held. part c.args.index c.args.taken held.items) c.self.view_is
+
+pub returns-in_err-exchange_in-clause-put_room : goal.returns-in_err-exchange_in-clause-put_room
+returns-in_err-exchange_in-clause-put_room g c = c.in_err-exchange_in.ensures.put_room
+
+pub returns-clause-put_room : goal.returns-clause-put_room
+returns-clause-put_room g c = c.in_ok-exchange_in.ensures.put_room
+
+pub returns-clause-succeeds : goal.returns-clause-succeeds
+returns-clause-succeeds g c few room = refl
