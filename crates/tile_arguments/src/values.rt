@@ -49,17 +49,17 @@ fn bare_value(name: &[u8], bytes: &[u8]) -> Option<NewValue>
     ensures { option_map new_value_of result ≡ bare_value name.now bytes.now }
 {
     if name == b"float".as_slice() {
-        Some(NewValue::Float4(pairs_in(bytes)?))
+        pairs_in(bytes).map(NewValue::Float4)
     } else if name == b"double".as_slice() {
-        Some(NewValue::Double8(pairs_in(bytes)?))
+        pairs_in(bytes).map(NewValue::Double8)
     } else if name == b"int".as_slice() {
-        Some(NewValue::Int(integer(bytes)?))
+        integer(bytes).map(NewValue::Int)
     } else if name == b"uint".as_slice() {
-        Some(NewValue::Uint(number(bytes).ok()?))
+        number(bytes).ok().map(NewValue::Uint)
     } else if name == b"sint".as_slice() {
-        Some(NewValue::Sint(integer(bytes)?))
+        integer(bytes).map(NewValue::Sint)
     } else if name == b"bool".as_slice() {
-        Some(NewValue::Bool(truth(bytes)?))
+        truth(bytes).map(NewValue::Bool)
     } else {
         None
     }
