@@ -1,5 +1,5 @@
 -- Lines that are put one after the other.
-use Rattle.std.proofs.Common.{◌≡◌, ℕ, ◌+◌, ◌<◌, Option, List, [], ◌∷◌, ◌++◌, length, get_or, map, take, refl, sym, ap, ◌∙◌}
+use Rattle.std.proofs.Common.{◌≡◌, ℕ, ◌+◌, ◌<◌, ◌≤◌, Option, List, [], ◌∷◌, ◌++◌, length, get_or, map, take, take_all, refl, sym, ap, ◌∙◌}
 use Rattle.std.proofs.lemmas.List.{flat_map_more, map_push, take_more}
 use Rattle.tile_lines.specs.Lines.{with_feed}
 use Rattle.std.specs.List.{enumerate_from, filter_map}
@@ -22,6 +22,10 @@ pub next_line : {A B : Type 0} (view : A → B) (line : B → List ℕ) (old now
 next_line {A} {B} view line old now new items i d low before put =
     line_more line old now new (map view (take i items)) (view (get_or items i d)) before put
     ∙ ap (λ (xs : List B). old ++ joined_lines (map line xs)) (sym (ap (λ (xs : List A). map view xs) (take_more items i d low) ∙ map_push view (take i items) (get_or items i d)))
+
+-- the same, all seen
+pub last_line : {A B : Type 0} (view : A → B) (line : B → List ℕ) (old now : List ℕ) (items : List A) (i : ℕ) → length items ≤ i → now ≡ old ++ joined_lines (map line (map view (take i items))) → now ≡ old ++ joined_lines (map line (map view items))
+last_line {A} {B} view line old now items i past before = before ∙ ap (λ (xs : List A). old ++ joined_lines (map line (map view xs))) (take_all i items past)
 
 pub line_seen_more : {A B : Type 0} (view : A → B) (line : ℕ → B → List ℕ) (old now new : List ℕ) (seen : List (ℕ × A)) (ordinal : ℕ) (x : A) → now ≡ old ++ joined_lines (lines_seen view line seen) → new ≡ now ++ with_feed (line ordinal (view x)) → new ≡ old ++ joined_lines (lines_seen view line (seen ++ (ordinal, x) ∷ []))
 line_seen_more {A} {B} view line old now new seen ordinal x before put =

@@ -1,9 +1,9 @@
 -- The attributes of a feature, and the pairs that name them.
 use Rattle.std.proofs.Common.{◌≡◌, ℕ, zero, suc, ◌<◌, ◌^◌, Bool, true, List, [], ◌∷◌, ◌++◌, length, map, Option, Some, None, Bor, codes, refl, sym, ap, ◌∙◌, subst, arith}
-use Rattle.std.specs.Prelude.{All, IsTrue, nat_lt, slice_get, slice_index_or}
+use Rattle.std.specs.Prelude.{All, IsSome, IsTrue, nat_lt, slice_get, slice_index_or}
 use borrow.Author.Tests.{ltb-true}
 use Rattle.std.specs.List.{AllByRecursion, list_all}
-use Rattle.std.specs.Option.{option_and_then}
+use Rattle.std.specs.Option.{option_and_then, option_copied}
 use Rattle.std.proofs.lemmas.Bool.{and_parts}
 use Rattle.std.proofs.lemmas.Option.{cond_some}
 use Rattle.std.proofs.lemmas.List.{get_or-map, length-map}
@@ -42,6 +42,10 @@ there (x ∷ xs) (suc k) d inside = there xs k d (omega arith)
 pub ordinal_there : (xs : List (List ℕ)) (k : ℕ) → is_ordinal (length xs) k ≡ true → slice_get xs k ≡ Some (slice_index_or xs k [])
 ordinal_there xs k is = there xs k [] (ltb-true k (length xs) (and_parts (nat_lt k (length xs)) (nat_lt k (2 ^ 32)) is).0)
 
+pub entry_there : (xs : List (List ℕ)) (k : ℕ) (found : Option (Bor (List ℕ))) → is_ordinal (length xs) k ≡ true → option_copied found ≡ slice_get xs k → IsSome found
+entry_there xs k None is e = let some = ordinal_there xs k is in absurd cc
+entry_there xs k (Some found) is e = refl
+
 -- the same for the slices that hold the keys and the values
 pub held_fit : (layer : Layer) (pairs : List Pair) (held_keys held_values : List (Bor (List ℕ))) → contents_of held_keys ≡ keys layer → contents_of held_values ≡ values layer
     → All (λ pair. IsTrue (is_pair (length (keys layer)) (length (values layer)) (pair_seen pair))) pairs → All (λ pair. IsTrue (is_pair (length held_keys) (length held_values) (pair_seen pair))) pairs
@@ -51,7 +55,18 @@ held_fit layer pairs held_keys held_values of_keys of_values fit =
     subst (λ (n : ℕ). All (λ pair. IsTrue (is_pair n (length held_values) (pair_seen pair))) pairs) count_keys
     (subst (λ (n : ℕ). All (λ pair. IsTrue (is_pair (length (keys layer)) n (pair_seen pair))) pairs) count_values fit)
 
--- what the slices hold at a pair's ordinals is what the pair names
+-- what there is at an ordinal
+got : {A : Type 0} (xs : List A) (k : ℕ) (x d : A) → slice_get xs k ≡ Some x → x ≡ slice_index_or xs k d
+got [] k x d e = absurd cc
+got (y ∷ xs) zero x d e = cc
+got (y ∷ xs) (suc k) x d e = got xs k x d e
+
+-- what the layer has at a pair's ordinals is what the pair names
+pub pair_named : (layer : Layer) (pair : ℕ × ℕ) (key value : List ℕ) → slice_get (keys layer) pair.0 ≡ Some key → slice_get (values layer) pair.1 ≡ Some value → (key, value) ≡ attribute_at layer pair
+pair_named layer pair key value of_key of_value =
+    ap (λ (k : List ℕ). (k, value)) (got (keys layer) pair.0 key [] of_key) ∙ ap (λ (v : List ℕ). (slice_index_or (keys layer) pair.0 [], v)) (got (values layer) pair.1 value [] of_value)
+
+-- the same for the slices
 pub named_held : (held_keys held_values : List (Bor (List ℕ))) (pair : ℕ × ℕ) (key value : Bor (List ℕ)) → IsTrue (is_pair (length held_keys) (length held_values) pair)
     → ((slice_index_or held_keys pair.0 key).now, (slice_index_or held_values pair.1 value).now) ≡ named_by (contents_of held_keys) (contents_of held_values) pair
 named_held held_keys held_values pair key value fits =

@@ -1,12 +1,13 @@
 -- Lines that are put piece by piece.
-use Rattle.std.proofs.Common.{◌≡◌, ℕ, cond, List, [], ◌∷◌, ◌++◌, Result, Ok, Err, codes, append_assoc}
+use Rattle.std.proofs.Common.{◌≡◌, ℕ, cond, List, [], ◌∷◌, ◌++◌, Result, Ok, Err, codes, append_assoc, append-nil}
 use Rattle.std.specs.Prelude.{OnOk, is_ok}
+use Rattle.std.proofs.lemmas.Grind.{flat_map-append}
 use Rattle.mvt_document.specs.Plain.{Feature}
 use Rattle.mvt_geometry.specs.Shapes.{Geometry}
 use Rattle.mvt_view.specs.FeatureGeometry.{HasFeatureGeometry}
 use Rattle.tile_text.specs.Texts.{geometry_form}
 use Rattle.tile_lines.specs.Lines.{with_feed}
-use Rattle.tile_listing.specs.Listing.{spaced, geometry_line}
+use Rattle.tile_listing.specs.Listing.{spaced, geometry_line, joined_lines}
 use Rattle.tile_listing.proofs.Shown.{with_geometry, without_geometry}
 
 -- what there is where the last call went well
@@ -23,3 +24,9 @@ geometry_put feature geometry t0 t1 t2 t3 has e1 e2 e3 = rw (with_geometry featu
 
 pub no_geometry_put : (feature : Feature) (t0 t1 : List ℕ) → ((geometry : Geometry) → HasFeatureGeometry feature geometry → ⊥) → t1 ≡ t0 ++ codes "geometry unreadable\n" → t1 ≡ t0 ++ with_feed (geometry_line feature)
 no_geometry_put feature t0 t1 none e = rw (without_geometry feature none) e
+
+pub layer_put : (t0 t1 t2 t3 t4 line : List ℕ) (ks vs fs : List (List ℕ)) → t1 ≡ t0 ++ with_feed line → t2 ≡ t1 ++ joined_lines ks → t3 ≡ t2 ++ joined_lines vs → t4 ≡ t3 ++ joined_lines fs → t4 ≡ t0 ++ joined_lines (line ∷ (ks ++ (vs ++ fs)))
+layer_put t0 t1 t2 t3 t4 line ks vs fs e1 e2 e3 e4 = rw (e4, e3, e2, e1, flat_map-append with_feed ks (vs ++ fs), flat_map-append with_feed vs fs) (simp append_assoc)
+
+pub feature_put : (t0 t1 t2 t3 line last : List ℕ) (attributes : List (List ℕ)) → t1 ≡ t0 ++ with_feed line → t2 ≡ t1 ++ joined_lines attributes → t3 ≡ t2 ++ with_feed last → t3 ≡ t0 ++ joined_lines (line ∷ (attributes ++ last ∷ []))
+feature_put t0 t1 t2 t3 line last attributes e1 e2 e3 = rw (e3, e2, e1, flat_map-append with_feed attributes (last ∷ [])) (simp (append_assoc, append-nil))
