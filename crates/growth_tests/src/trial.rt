@@ -204,10 +204,15 @@ impl Trial {
     }
 }
 
-/// The command is prepared on the tile, and carried out, and taken back.
+/// The command is prepared on the tile, and carried out, and taken back. It is dropped on one way
+/// out.
 fn there_and_back(alloc: Global, tile: &[u8], command: Command) -> Result<Refused, Fault> {
+    on_tile(alloc, tile, &command)
+}
+
+fn on_tile(alloc: Global, tile: &[u8], command: &Command) -> Result<Refused, Fault> {
     let mut edit = Edit::read(alloc, tile)?;
-    on(alloc, &mut edit, &command)
+    on(alloc, &mut edit, command)
 }
 
 /// The same on what was read of the tile.
