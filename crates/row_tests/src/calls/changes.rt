@@ -82,16 +82,31 @@ fn steps(alloc: Global, edit: &Edit) -> Answer {
 /// same again.
 fn flips(alloc: Global, tile: &[u8], edit: &mut Edit) -> Answer {
     let before = seen(alloc, edit)?;
-    let after = flipped(alloc, edit)?;
-    let again = flipped(alloc, edit)?;
-    let after_again = flipped(alloc, edit)?;
-    let has_sizes = before.tile.as_slice() == tile && has_its_size(&before) && has_its_size(&after);
-    let comes_back = again == before && after_again == after;
-    match (has_sizes, comes_back) {
-        (true, true) => Ok(after.tile),
-        (true, false) => said(alloc, "does not come back"),
-        (false, _) => said(alloc, "wrong size"),
+    if before.tile.as_slice() == tile && has_its_size(&before) {
+        flips_from(alloc, edit, &before)
+    } else {
+        said(alloc, "wrong size")
     }
+}
+
+fn flips_from(alloc: Global, edit: &mut Edit, before: &Seen) -> Answer {
+    let after = flipped(alloc, edit)?;
+    flips_between(alloc, edit, before, &after)
+}
+
+fn flips_between(alloc: Global, edit: &mut Edit, before: &Seen, after: &Seen) -> Answer {
+    if !has_its_size(after) {
+        return said(alloc, "wrong size");
+    }
+    if !becomes(alloc, edit, before)? || !becomes(alloc, edit, after)? {
+        return said(alloc, "does not come back");
+    }
+    Ok(Vec::from_slice(alloc, &after.tile)?)
+}
+
+/// Whether the change makes what was seen.
+fn becomes(alloc: Global, edit: &mut Edit, wanted: &Seen) -> Result<bool, Broken> {
+    Ok(flipped(alloc, edit)? == *wanted)
 }
 
 fn seen(alloc: Global, edit: &Edit) -> Result<Seen, Broken> {

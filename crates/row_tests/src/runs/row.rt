@@ -83,26 +83,30 @@ impl<'a> Row<'a> {
         Ok(true)
     }
 
-    /// Runs the row in each way. Returns whether everything is as it should be, and prints where it
-    /// is not.
+    /// Runs the row, as a strict run too where no line is refused. Returns whether everything is as
+    /// it should be, and prints where it is not.
     pub fn holds<R: Eprint + AllocGlobal>(&self, rt: &R) -> io::Result<bool> {
-        let mut holds = true;
-        for strict in [self.is_strict, true] {
-            if strict == self.is_strict || self.ends == "Done" {
-                let options = self.options(strict);
-                let call = called(rt.alloc(), &self.tile, &self.script, options);
-                let stream = streamed(rt.alloc(), &self.tile, &self.script, options);
-                let drip = dripped(rt.alloc(), &self.tile, &self.script, options);
-                for (way, ran) in [
-                    ("a call", &call),
-                    ("streams", &stream),
-                    ("one byte a call", &drip),
-                ] {
-                    holds = self.is_met(rt, way, ran)? && holds;
-                }
-            }
+        let holds = self.holds_as(rt, self.options(self.is_strict))?;
+        if self.is_strict || self.ends != "Done" {
+            return Ok(holds);
         }
-        Ok(holds)
+        Ok(self.holds_as(rt, self.options(true))? && holds)
+    }
+
+    /// Runs the row in each way.
+    fn holds_as<R: Eprint + AllocGlobal>(&self, rt: &R, options: Options) -> io::Result<bool>
+        requires some_depth { 1 ≤ options.depth }
+        requires depth { options.depth ≤ 10000 }
+    {
+        let (alloc, tile, script) = (rt.alloc(), &self.tile, &self.script);
+        let call = self.is_met(rt, "a call", &called(alloc, tile, script, options))?;
+        let stream = self.is_met(rt, "streams", &streamed(alloc, tile, script, options))?;
+        let drip = self.is_met(
+            rt,
+            "one byte a call",
+            &dripped(alloc, tile, script, options),
+        )?;
+        Ok(call && stream && drip)
     }
 
     fn options(&self, strict: bool) -> Options
