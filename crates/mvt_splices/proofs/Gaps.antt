@@ -1,6 +1,7 @@
 -- A list in a ring, which begins after a gap and ends before it.
-use Rattle.std.proofs.Common.{◌≡◌, ℕ, zero, suc, ◌+◌, ◌-◌, ◌≤◌, List, [], ◌∷◌, ◌++◌, length, length-append, length-drop, length-take, take, drop, append_assoc, take-append-drop, refl, sym, ap, ◌∙◌, arith}
-use Rattle.std.proofs.lemmas.List.{drop-append-le, drop-drop, drop_at, length-take-le, take_all, take_at, take-append-le, take-take}
+use Rattle.std.proofs.Common.{◌≡◌, ℕ, suc, ◌+◌, ◌-◌, ◌<◌, ◌≤◌, List, [], ◌∷◌, ◌++◌, length, length-append, length-drop, length-take, take, drop, append_assoc, take-append-drop, refl, sym, ap, ◌∙◌, arith}
+use Rattle.std.specs.Prelude.{Option, Some, None, IsSome, option_to_list}
+use Rattle.std.proofs.lemmas.List.{drop-append-le, drop-drop, drop_at, length-take-le, take_at, take-append-le, take-take}
 use Rattle.mvt_document.specs.Splicing.{part, splice}
 use Rattle.mvt_document.proofs.Lists.{take_sum}
 
@@ -98,3 +99,41 @@ put_traded given taken common ring put all there few also =
     ∙ ap (λ items. take common ring ++ items) (take-append-le (taken - common) (drop common ring) (take common put) (omega (arith, length-drop common ring)))
     ∙ sym (take_sum common (taken - common) ring)
     ∙ ap (λ n. take n ring) sum
+
+-- ---- items go one by one
+
+-- the first item goes, and comes last in another list
+pub passed : {A : Type 0} (left n : ℕ) (old rest to : List A) (item : A) → left ≡ suc n → old ≡ item ∷ rest → (drop n rest ≡ drop left old) × ((to ++ item ∷ []) ++ take n rest ≡ to ++ take left old)
+passed left n old rest to item more at = (
+  ap (λ k. drop k (item ∷ rest)) (sym more) ∙ ap (drop left) (sym at),
+  append_assoc to (item ∷ []) (take n rest) ∙ ap (λ k. to ++ take k (item ∷ rest)) (sym more) ∙ ap (λ items. to ++ take left items) (sym at),
+)
+
+-- the first item goes, and the first one of another list, or of the same, comes last
+pub traded : {A : Type 0} (left n : ℕ) (old rest other following : List A) (item new : A) → left ≡ suc n → old ≡ item ∷ rest → other ≡ new ∷ following → n ≤ length rest → n ≤ length following → drop n (rest ++ new ∷ []) ++ take n (following ++ item ∷ []) ≡ drop left old ++ take left other
+traded left n old rest other following item new more at beside within also =
+    ap (λ front. front ++ take n (following ++ item ∷ [])) (drop-append-le n rest (new ∷ []) within)
+    ∙ ap (λ back. (drop n rest ++ new ∷ []) ++ back) (take-append-le n following (item ∷ []) also)
+    ∙ append_assoc (drop n rest) (new ∷ []) (take n following)
+    ∙ ap (λ k. drop k (item ∷ rest) ++ take k (new ∷ following)) (sym more)
+    ∙ ap (λ items. drop left items ++ take left (new ∷ following)) (sym at)
+    ∙ ap (λ items. drop left old ++ take left items) (sym beside)
+
+-- ---- what a ring has room for
+
+-- once the gap is moved, what is taken out is there, and there is room for what is put
+pub fits_moved : {A : Type 0} (before index taken given count capacity room moved held : ℕ) (ring items : List A) → count ≡ length ring → unrolled before ring ≡ items → capacity - count ≡ room → count ≤ capacity → index + taken ≤ length items → given ≤ room + taken → moved ≡ count → held ≡ capacity → (taken ≤ moved) × (moved + given ≤ held + taken)
+fits_moved before index taken given count capacity room moved held ring items counted seen is within there fits same also =
+    let all : count ≡ length items = counted ∙ sym (length_unrolled before ring) ∙ ap length seen in
+    (omega (arith, all, there, same), omega (arith, is, within, fits, same, also))
+
+pub one_fits : (taken given moved held : ℕ) → moved + given ≤ held + taken → taken ≡ 0 → given ≡ 1 → moved < held
+one_fits taken given moved held fits none one = omega (arith, fits, none, one)
+
+pub one_more : (taken given moved left count : ℕ) → left ≡ moved + 1 → moved ≡ count → taken ≡ 0 → given ≡ 1 → left + taken ≡ count + given
+one_more taken given moved left count more same none one = omega (arith, more, same, none, one)
+
+-- the one item that is popped is the first
+pub popped : {A : Type 0} (count : ℕ) (old rest : List A) (first : Option A) → old ≡ option_to_list first ++ rest → IsSome first → count ≡ 1 → option_to_list first ≡ take count old
+popped count old rest None is some one = absurd cc
+popped count old rest (Some x) is some one = ap (take 1) (sym is) ∙ ap (λ n. take n old) (sym one)

@@ -1,6 +1,6 @@
 //! A list that is open at a gap: a ring that begins after the gap and ends before it.
 
-ghost use Rattle.std.specs.Prelude.{◌≡◌, ◌+◌, ◌-◌, ◌<◌, ◌≤◌, ◌↔◌, [], ◌++◌, length, take, drop, vec_len, vec_capacity, OnOk, IsTrue};
+ghost use Rattle.std.specs.Prelude.{◌≡◌, ◌+◌, ◌-◌, ◌<◌, ◌≤◌, ◌↔◌, [], ◌++◌, length, take, drop, vec_len, vec_capacity, OnOk, IsTrue, option_to_list};
 ghost use Rattle.std.specs.VecDeque.{deque_len, deque_capacity};
 ghost use Rattle.mvt_document.specs.Splicing.{part, splice};
 ghost use Rattle.mvt_document.specs.Lending.{held_in};
@@ -226,7 +226,7 @@ fn exchange_one<T: Drop>(ring: &mut VecDeque<T>, taken: usize, put: &mut Put<T>)
     ensures ring_room { deque_capacity ring.new ≡ deque_capacity ring.old }
     ensures put_room { length put.new.items + put.new.room ≡ length put.old.items + put.old.room }
 {
-    let first = if taken == 0 { None } else { ring.pop_front() };
+    let first = pop_few(ring, taken);
     if let Some(item) = put.trade(first) {
         ring.push_back_reserved(item);
     }
@@ -257,6 +257,19 @@ fn exchange_many<T>(ring: &mut VecDeque<T>, taken: usize, put: &mut Vec<T>)
     pass_on(ring, &mut queue, taken - common);
     pass_on(&mut queue, ring, given - common);
     mem::replace(put, queue.into_vec()).destroy_empty();
+}
+
+/// Takes out the first item, or none.
+#[inline(always)]
+fn pop_few<T>(ring: &mut VecDeque<T>, count: usize) -> Option<T>
+    requires few { count ≤ 1 }
+    requires there { count ≤ deque_len ring.old }
+    ensures items { option_to_list result ≡ take count ring.old.items }
+    ensures ring { ring.new.items ≡ drop count ring.old.items }
+    ensures length { deque_len ring.new + count ≡ deque_len ring.old }
+    ensures room { deque_capacity ring.new ≡ deque_capacity ring.old }
+{
+    if count == 0 { None } else { ring.pop_front() }
 }
 
 /// Moves the first `count` items to the end of a vector that has room for them.
